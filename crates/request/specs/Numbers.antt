@@ -1,0 +1,22 @@
+-- A request as numbers. Assumes nothing.
+use mathlib.Core.Bool.{Bool, not, _&&_, cond}
+use Prim.Native.Nat.{ℕ, _^_, _≤_, _<_}
+use lib.Dec.{leb, ltb}
+use Rattle.request.specs.declared.Request.{Request}
+pub mod Laws
+
+-- "n is 1 to 4 inputs, r is 0 to 7 switches, M is 0 to 7"; no table bit at or above 2^n
+pub record Good (q : Request) : Type 0 where
+  pub n-low : 1 ≤ q .n
+  pub n-high : q .n ≤ 4
+  pub table-low : q .table < 2 ^ (2 ^ (q .n))
+  pub r-high : q .r ≤ 7
+  pub m-high : q .m ≤ 7
+
+-- "Each later operation tests its request again as numbers, 2 to 5 in order": the first that applies, or 0
+unfoldable pub refusalOf : Request → ℕ
+refusalOf q =
+    cond (not (leb 1 (q .n) && leb (q .n) 4)) 2
+    (cond (not (ltb (q .table) (2 ^ (2 ^ (q .n))))) 3
+    (cond (ltb 7 (q .r)) 4
+    (cond (ltb 7 (q .m)) 5 0)))
