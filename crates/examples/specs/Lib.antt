@@ -1,0 +1,2 @@
+-- Document 01's worked examples. Assumes nothing.
+pub mod Table

@@ -1,0 +1,63 @@
+-- P1 to P11 and the refused requests, each a row with what the definitions compute and what document 01 states, both as
+-- numbers; the rows are proved by a single computation. Assumes nothing.
+use mathlib.Core.Path.{_≡_, refl}
+use mathlib.Core.List.{List, [], _∷_, map}
+use Prim.Native.Nat.{ℕ}
+use lib.ListN.{replicate}
+use mathlib.Core.List.{_++_}
+use Rattle.prelude.specs.Lists.{equalLists, firstOf}
+use Rattle.request.specs.declared.Request.{Request}
+use Rattle.request.specs.Numbers.{refusalOf}
+use Rattle.rows.specs.Rows.{rowsOf, literalOn}
+use Rattle.request.specs.Line.{numberOf, requestOf, lineForm, numbersOf, runEnd, digits, endedBy, single, isTable, tableAt}
+use Rattle.network.specs.declared.Network.{Network}
+use Rattle.network.specs.Check.{numberOf as checkNumber, valuesOf, checkedOf, rowsAnswer, firstWrong, fitting, literalsLow, labelsLowest, listed, near, nearer, touching, atSink, apart, part}
+
+-- what is computed, and what document 01 states
+pub record Row : Type 0 where
+  pub computed : List ℕ
+  pub stated : List ℕ
+
+-- a network of r switches, in arrays of 7 literals and 16 labels
+network : ℕ → List ℕ → List ℕ → Network
+network r literals labels = record { r = r; literals = literals; labels = labels }
+
+-- the answer of checking a network: its refusal number, then the wrong row if there is one
+checked : Request → Network → List ℕ
+checked q w = checkNumber (checkedOf q w) ∷ valuesOf (checkedOf q w)
+
+-- the refusal of a request read from text, 0 where it is taken
+reading : List ℕ → List ℕ
+reading s = numberOf (requestOf s) ∷ []
+
+-- table 0110, r = 4, with the series bound m
+exclusive : ℕ → List ℕ
+exclusive m =
+    checked (record { n = 2; table = 6; r = 4; m = m })
+    (network 4 (0 ∷ 3 ∷ 2 ∷ 1 ∷ 0 ∷ 0 ∷ 0 ∷ []) (0 ∷ 0 ∷ 2 ∷ 2 ∷ 4 ∷ 0 ∷ 6 ∷ 6 ∷ 4 ∷ 4 ∷ 0 ∷ 0 ∷ 0 ∷ 0 ∷ 0 ∷ 0 ∷ []))
+
+pub rows : List Row
+rows =
+    -- P9: "does"
+    record { computed = exclusive 2; stated = 0 ∷ [] }
+    -- P10: row 1
+    ∷ record { computed = exclusive 1; stated = 0 ∷ 1 ∷ [] }
+    -- P11: "1 11 0 0", labels 0 0: does
+    ∷ record { computed = checked (record { n = 1; table = 3; r = 0; m = 0 }) (network 0 (replicate 7 0) (replicate 16 0)); stated = 0 ∷ [] }
+    -- refused: empty 1
+    ∷ record { computed = reading []; stated = 1 ∷ [] }
+    -- "5 01 1 1": n = 5 is 2
+    ∷ record { computed = reading (53 ∷ 32 ∷ 48 ∷ 49 ∷ 32 ∷ 49 ∷ 32 ∷ 49 ∷ 10 ∷ []); stated = 2 ∷ [] }
+    -- "1 011 1 1": table 011 for n = 1 is 3
+    ∷ record { computed = reading (49 ∷ 32 ∷ 48 ∷ 49 ∷ 49 ∷ 32 ∷ 49 ∷ 32 ∷ 49 ∷ 10 ∷ []); stated = 3 ∷ [] }
+    -- "1 01 8 1": r = 8 is 4
+    ∷ record { computed = reading (49 ∷ 32 ∷ 48 ∷ 49 ∷ 32 ∷ 56 ∷ 32 ∷ 49 ∷ 10 ∷ []); stated = 4 ∷ [] }
+    -- "1 01 1 8": M = 8 is 5
+    ∷ record { computed = reading (49 ∷ 32 ∷ 48 ∷ 49 ∷ 32 ∷ 49 ∷ 32 ∷ 56 ∷ 10 ∷ []); stated = 5 ∷ [] }
+    ∷ []
+
+-- each row's computed numbers are those stated
+pub holds : map (λ (x : Row). x .computed) rows ≡ map (λ (x : Row). x .stated) rows
+unfolding rows exclusive checked reading network requestOf lineForm numbersOf runEnd digits endedBy single isTable tableAt
+    refusalOf rowsOf literalOn checkedOf rowsAnswer firstWrong fitting literalsLow labelsLowest listed firstOf near nearer touching atSink apart part
+holds = refl

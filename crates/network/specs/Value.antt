@@ -1,0 +1,15 @@
+-- Networks as values. Assumes nothing.
+use mathlib.Core.Bool.{Bool, _&&_}
+use lib.Dec.{eqb}
+use lib.ListN.{replicate}
+use Rattle.prelude.specs.Lists.{equalLists}
+use Rattle.network.specs.declared.Network.{Network}
+pub mod Laws
+
+-- "the network with r = 0 and every entry 0"
+abbrev pub zeros : Network
+zeros = record { r = 0; literals = replicate 7 0; labels = replicate 16 0 }
+
+-- whether two networks are equal
+unfoldable pub sameNetwork : Network → Network → Bool
+sameNetwork a b = eqb (a .r) (b .r) && (equalLists (a .literals) (b .literals) && equalLists (a .labels) (b .labels))

@@ -1,0 +1,21 @@
+-- A table has 16 bits, so there is no row above 15; below that the shift is the definition. Assumes nothing.
+use Rattle.rows.specs.Rows.Laws.{bit-none}
+use native.Mathlib.Nat.{lt-of-lt-of-le}
+use lib.Pow.{pow-mono}
+use mathlib.Core.Path.{sym}
+use native.Mathlib.Omega.{arith}
+use borrow.Author.Needs.{needs}
+use Rattle.rows.proofs.row_on.Statement.{statement}
+use Rattle.rows.proofs.row_on.Tie as tie
+
+returns : tie.Need-returns
+returns c = sym (bit-none (c .before .args .table) (c .before .args .k) (lt-of-lt-of-le (c .before .fits .table .fits) (pow-mono {i = 16} (omega arith))))
+
+shr-result : tie.Need-shr-result
+shr-result c = search needs
+
+returns-2 : tie.Need-returns-2
+returns-2 c = search needs
+
+pub row-on-spec : {M : Type 1} → statement M
+row-on-spec = tie.close (tie.spec returns shr-result returns-2)

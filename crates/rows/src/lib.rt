@@ -1,0 +1,78 @@
+// Rows: which are on, how many, and the value of a literal on one.
+ghost use mathlib.Core.Path.{_≡_};
+ghost use mathlib.Core.Bool.{Bool};
+ghost use Prim.Native.Nat.{ℕ, _*_, _^_, _≤_, _<_};
+ghost use Rattle.rows.specs.Rows.{bit, onBelow, inputRows, literalOn, literalValue};
+
+// The rows on which each input is 1, for n = 1 to 4.
+const INPUT_ROWS: [[u16; 4]; 4] = [
+    [0x2, 0, 0, 0],
+    [0xC, 0xA, 0, 0],
+    [0xF0, 0xCC, 0xAA, 0],
+    [0xFF00, 0xF0F0, 0xCCCC, 0xAAAA],
+];
+
+// Whether row k of a table is on.
+pub fn row_on(table: u16, k: u8) -> bool
+    ensures { λ x. ⌜ x ≡ bit table k ⌝ }
+{
+    if 15 < k {
+        return false;
+    }
+    (table >> k) % 2 == 1
+}
+
+// The number of on rows.
+pub fn on_rows(table: u16) -> u32
+    ensures { λ x. ⌜ x ≡ onBelow table 16 ⌝ }
+{
+    u16::count_ones(table)
+}
+
+// The number of on rows below row k.
+pub fn on_rows_below(table: u16, k: u8) -> u32
+    ensures { λ x. ⌜ x ≡ onBelow table k ⌝ }
+{
+    if 16 <= k {
+        return on_rows(table);
+    }
+    u16::count_ones(table % (1u16 << k))
+}
+
+// The rows on which input v is 1.
+fn input_rows(n: u8, v: u8) -> u16
+    requires { ⌜ (1 ≤ n) × (n ≤ 4) × (v < n) ⌝ }
+    ensures { λ x. ⌜ x ≡ inputRows n v ⌝ }
+{
+    INPUT_ROWS[(n - 1) as usize][v as usize]
+}
+
+// The value of literal v on row k: an input, or the complement of one.
+fn literal_within(n: u8, k: u8, v: u8) -> bool
+    requires { ⌜ (1 ≤ n) × (n ≤ 4) × (k < 2 ^ n) × (v < 2 * n) ⌝ }
+    ensures { λ x. ⌜ x ≡ literalOn n k v ⌝ }
+{
+    if v < n {
+        return row_on(input_rows(n, v), k);
+    }
+    !row_on(input_rows(n, v - n), k)
+}
+
+// The same, and false where there is no such literal or row.
+pub fn literal_on(n: u8, k: u8, v: u8) -> bool
+    ensures { λ x. ⌜ x ≡ literalValue n k v ⌝ }
+{
+    if n < 1 {
+        return false;
+    }
+    if 4 < n {
+        return false;
+    }
+    if 1u32 << (n as u32) <= k as u32 {
+        return false;
+    }
+    if 2 * n <= v {
+        return false;
+    }
+    literal_within(n, k, v)
+}

@@ -1,0 +1,276 @@
+// Runs the proved functions on examples and writes what each answers, a line for each: requests read from text, requests given as
+// numbers, networks checked and compared. What it must write stands in the file stdout beside src/.
+use network::Checked;
+use network::Network;
+use request::Reading;
+use request::Request;
+
+fn number(x: u64) {
+    io::write_all(1, b" ");
+    io::print_decimal(1, x);
+}
+
+fn show_reading(text: &[u8]) {
+    match request::read::read_request(text) {
+        Reading::Taken(q) => {
+            io::write_all(1, b"taken");
+            number(q.n as u64);
+            number(q.table as u64);
+            number(q.r as u64);
+            number(q.m as u64);
+        }
+        Reading::Refused(k) => {
+            io::write_all(1, b"refused");
+            number(k as u64);
+        }
+    }
+    io::write_all(1, b"\n");
+}
+
+fn show_test(n: u8, table: u16, r: u8, m: u8) {
+    io::write_all(1, b"test");
+    number(request::numbers::test_request(Request { n, table, r, m }) as u64);
+    io::write_all(1, b"\n");
+}
+
+fn show_check(q: Request, w: Network) {
+    match network::check::check_network(q, w) {
+        Checked::Does => {
+            io::write_all(1, b"does");
+        }
+        Checked::Wrong(k) => {
+            io::write_all(1, b"row");
+            number(k as u64);
+        }
+        Checked::Refused(k) => {
+            io::write_all(1, b"refused");
+            number(k as u64);
+        }
+    }
+    io::write_all(1, b"\n");
+}
+
+fn show_same(a: Network, b: Network) {
+    if network::value::same_network(a, b) {
+        io::write_all(1, b"same\n");
+    } else {
+        io::write_all(1, b"other\n");
+    }
+}
+
+// Requests as text: document 01's, then one for each way in which the form or a number is refused.
+fn requests() {
+    show_reading(b"1 00 0 0\n");
+    show_reading(b"2 0110 4 2\n");
+    show_reading(b"4 1000000000000001 7 7\n");
+    show_reading(b"");
+    show_reading(b"5 01 1 1\n");
+    show_reading(b"1 011 1 1\n");
+    show_reading(b"1 01 8 1\n");
+    show_reading(b"1 01 1 8\n");
+    show_reading(b"1 01 1 1");
+    show_reading(b"1 01 1 1\n\n");
+    show_reading(b"1 01 1 1 \n");
+    show_reading(b" 1 01 1 1\n");
+    show_reading(b"1  01 1 1\n");
+    show_reading(b"1 01 1\n");
+    show_reading(b"1 0- 1 1\n");
+    show_reading(b"1 01 1 1\r\n");
+    show_reading(b"1 02 1 1\n");
+    show_reading(b"2 01 1 1\n");
+    show_reading(b"9 2 9 9\n");
+    show_reading(b"1 9 9 9\n");
+    show_reading(b"01 01 1 1\n");
+    show_reading(b"1 01 00 1\n");
+    show_reading(b"1 01 1 01\n");
+    show_reading(
+        b"1 01 1 000000000000000000000000000000000000000000000000000000000000000000000000\n",
+    );
+}
+
+// Requests as numbers, at the bounds.
+fn numbers() {
+    show_test(0, 0, 0, 0);
+    show_test(5, 0, 8, 8);
+    show_test(1, 3, 7, 7);
+    show_test(1, 4, 8, 8);
+    show_test(3, 255, 7, 7);
+    show_test(3, 256, 7, 7);
+    show_test(4, 65535, 8, 8);
+    show_test(4, 65535, 7, 8);
+    show_test(4, 65535, 7, 7);
+}
+
+// Two inputs that differ: P9 and P10, then the same network with its parts changed.
+fn exclusive() {
+    let literals = [0u8, 3, 2, 1, 9, 9, 9];
+    let labels = [0u8, 0, 2, 2, 4, 0, 6, 6, 4, 4, 99, 99, 99, 99, 99, 99];
+    let w = Network {
+        r: 4,
+        literals: literals,
+        labels: labels,
+    };
+    show_check(
+        Request {
+            n: 2,
+            table: 6,
+            r: 4,
+            m: 2,
+        },
+        w,
+    );
+    show_check(
+        Request {
+            n: 2,
+            table: 6,
+            r: 4,
+            m: 1,
+        },
+        w,
+    );
+    show_check(
+        Request {
+            n: 2,
+            table: 14,
+            r: 4,
+            m: 2,
+        },
+        w,
+    );
+    show_check(
+        Request {
+            n: 2,
+            table: 4,
+            r: 4,
+            m: 2,
+        },
+        w,
+    );
+    show_check(
+        Request {
+            n: 2,
+            table: 6,
+            r: 3,
+            m: 2,
+        },
+        w,
+    );
+    show_check(
+        Request {
+            n: 0,
+            table: 6,
+            r: 9,
+            m: 2,
+        },
+        w,
+    );
+    show_check(
+        Request {
+            n: 1,
+            table: 3,
+            r: 4,
+            m: 2,
+        },
+        w,
+    );
+    let mut above = labels;
+    above[2] = 3;
+    show_check(
+        Request {
+            n: 2,
+            table: 6,
+            r: 4,
+            m: 2,
+        },
+        Network {
+            r: 4,
+            literals: literals,
+            labels: above,
+        },
+    );
+    let mut not_lowest = labels;
+    not_lowest[9] = 8;
+    show_check(
+        Request {
+            n: 2,
+            table: 6,
+            r: 4,
+            m: 2,
+        },
+        Network {
+            r: 4,
+            literals: literals,
+            labels: not_lowest,
+        },
+    );
+    show_same(w, w);
+    show_same(
+        w,
+        Network {
+            r: 4,
+            literals: literals,
+            labels: above,
+        },
+    );
+    show_same(w, network::value::zero_network());
+}
+
+// No switches: P11, and a constant that is off; then a switch entered at its second end.
+fn small() {
+    let joined = network::value::zero_network();
+    show_check(
+        Request {
+            n: 1,
+            table: 3,
+            r: 0,
+            m: 0,
+        },
+        joined,
+    );
+    show_check(
+        Request {
+            n: 1,
+            table: 0,
+            r: 0,
+            m: 0,
+        },
+        joined,
+    );
+    let literals = [0u8; 7];
+    let mut labels = [0u8; 16];
+    labels[1] = 1;
+    labels[3] = 1;
+    show_check(
+        Request {
+            n: 1,
+            table: 2,
+            r: 1,
+            m: 1,
+        },
+        Network {
+            r: 1,
+            literals: literals,
+            labels: labels,
+        },
+    );
+    show_check(
+        Request {
+            n: 1,
+            table: 2,
+            r: 1,
+            m: 0,
+        },
+        Network {
+            r: 1,
+            literals: literals,
+            labels: labels,
+        },
+    );
+}
+
+fn main() {
+    requests();
+    numbers();
+    exclusive();
+    small();
+}
