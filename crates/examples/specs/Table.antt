@@ -3,15 +3,20 @@
 use mathlib.Core.Path.{_≡_, refl}
 use mathlib.Core.List.{List, [], _∷_, map}
 use Prim.Native.Nat.{ℕ}
-use lib.ListN.{replicate}
-use mathlib.Core.List.{_++_}
-use Rattle.prelude.specs.Lists.{equalLists, firstOf}
+use lib.ListN.{length, replicate}
+use Rattle.prelude.specs.Blocks.{each, flatten}
+use Rattle.prelude.specs.Lists.{firstOf}
 use Rattle.request.specs.declared.Request.{Request}
 use Rattle.request.specs.Numbers.{refusalOf}
-use Rattle.rows.specs.Rows.{rowsOf, literalOn}
+use Rattle.rows.specs.Rows.{onBelow, rowsOf, literalOn}
 use Rattle.request.specs.Line.{numberOf, requestOf, lineForm, numbersOf, runEnd, digits, endedBy, single, isTable, tableAt}
 use Rattle.network.specs.declared.Network.{Network}
 use Rattle.network.specs.Check.{numberOf as checkNumber, valuesOf, checkedOf, rowsAnswer, firstWrong, fitting, literalsLow, labelsLowest, listed, near, nearer, touching, atSink, apart, part}
+use Rattle.clauses.specs.Formula.{pairNumber, X, P, L, W, S, transitivity, choice, choices, someStep, closedStep, firstStep, linkStep, lastStep, onRow, netSides, switchSides, offRow, rowVariables, rowClauses, rowsFrom, formula, formulaOf}
+use Rattle.clauses.specs.Count.{split, variablesBefore, variableCount}
+use Rattle.text.specs.Decimal.{digits as numeral, decimal}
+use Rattle.text.specs.Text.{literalText, literalsText, lineText}
+use Rattle.dimacs.specs.File.{headText, bodyText, fileText}
 
 -- what is computed, and what document 01 states
 pub record Row : Type 0 where
@@ -36,10 +41,51 @@ exclusive m =
     checked (record { n = 2; table = 6; r = 4; m = m })
     (network 4 (0 ∷ 3 ∷ 2 ∷ 1 ∷ 0 ∷ 0 ∷ 0 ∷ []) (0 ∷ 0 ∷ 2 ∷ 2 ∷ 4 ∷ 0 ∷ 6 ∷ 6 ∷ 4 ∷ 4 ∷ 0 ∷ 0 ∷ 0 ∷ 0 ∷ 0 ∷ 0 ∷ []))
 
+-- the request "1 00 0 0"
+firstRequest : Request
+firstRequest = record { n = 1; table = 0; r = 0; m = 0 }
+
+-- its file
+firstFile : List ℕ
+firstFile =
+    -- p cnf 5 8
+    112 ∷ 32 ∷ 99 ∷ 110 ∷ 102 ∷ 32 ∷ 53 ∷ 32 ∷ 56 ∷ 10
+    -- -2 0
+    ∷ 45 ∷ 50 ∷ 32 ∷ 48 ∷ 10
+    -- 3 0
+    ∷ 51 ∷ 32 ∷ 48 ∷ 10
+    -- -1 -2 3 0
+    ∷ 45 ∷ 49 ∷ 32 ∷ 45 ∷ 50 ∷ 32 ∷ 51 ∷ 32 ∷ 48 ∷ 10
+    -- -1 2 -3 0
+    ∷ 45 ∷ 49 ∷ 32 ∷ 50 ∷ 32 ∷ 45 ∷ 51 ∷ 32 ∷ 48 ∷ 10
+    -- -4 0
+    ∷ 45 ∷ 52 ∷ 32 ∷ 48 ∷ 10
+    -- 5 0
+    ∷ 53 ∷ 32 ∷ 48 ∷ 10
+    -- -1 -4 5 0
+    ∷ 45 ∷ 49 ∷ 32 ∷ 45 ∷ 52 ∷ 32 ∷ 53 ∷ 32 ∷ 48 ∷ 10
+    -- -1 4 -5 0
+    ∷ 45 ∷ 49 ∷ 32 ∷ 52 ∷ 32 ∷ 45 ∷ 53 ∷ 32 ∷ 48 ∷ 10
+    ∷ []
+
+-- V and C of a request, C as the number of its clauses
+variablesAndClauses : Request → List ℕ
+variablesAndClauses q = variableCount q ∷ length (formulaOf q) ∷ []
+
+-- r = M = 7, n = 4, all on
+largest : Request
+largest = record { n = 4; table = 65535; r = 7; m = 7 }
+
 pub rows : List Row
 rows =
+    -- P1: the file, byte by byte
+    record { computed = fileText firstRequest; stated = firstFile }
+    -- P2: "1 01 1 1": V 15, C 38
+    ∷ record { computed = variablesAndClauses (record { n = 1; table = 2; r = 1; m = 1 }); stated = 15 ∷ 38 ∷ [] }
+    -- P3: V 1,856 and C 27,547; its T beside them
+    ∷ record { computed = length (flatten (formulaOf largest)) ∷ variablesAndClauses largest; stated = 77088 ∷ 1856 ∷ 27547 ∷ [] }
     -- P9: "does"
-    record { computed = exclusive 2; stated = 0 ∷ [] }
+    ∷ record { computed = exclusive 2; stated = 0 ∷ [] }
     -- P10: row 1
     ∷ record { computed = exclusive 1; stated = 0 ∷ 1 ∷ [] }
     -- P11: "1 11 0 0", labels 0 0: does
@@ -59,5 +105,7 @@ rows =
 -- each row's computed numbers are those stated
 pub holds : map (λ (x : Row). x .computed) rows ≡ map (λ (x : Row). x .stated) rows
 unfolding rows exclusive checked reading network requestOf lineForm numbersOf runEnd digits endedBy single isTable tableAt
-    refusalOf rowsOf literalOn checkedOf rowsAnswer firstWrong fitting literalsLow labelsLowest listed firstOf near nearer touching atSink apart part
+    firstRequest firstFile variablesAndClauses largest each flatten pairNumber X P L W S transitivity choice choices someStep closedStep firstStep
+    linkStep lastStep onRow netSides switchSides offRow rowVariables rowClauses rowsFrom formula formulaOf split onBelow variablesBefore variableCount
+    numeral decimal literalText literalsText lineText headText bodyText fileText refusalOf rowsOf literalOn checkedOf rowsAnswer firstWrong fitting literalsLow labelsLowest listed firstOf near nearer touching atSink apart part
 holds = refl

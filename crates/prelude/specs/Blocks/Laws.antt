@@ -2,15 +2,35 @@
 use mathlib.Core.Path.{_≡_, refl, sym, ap, ap₂, _∙_}
 use mathlib.Core.List.{List, [], _∷_, _++_, append-assoc}
 use mathlib.Core.Logic.{⊎-elim}
-use Prim.Native.Nat.{ℕ, zero, suc, _+_, _-_, _*_, _≤_, _<_}
-use native.Mathlib.Nat.{not-suc-le-zero, le-of-suc-le-suc, eq-or-lt-of-le, zero-mul, suc-mul, add-zero, zero-add, add-assoc, le-refl, mul-one}
+use Prim.Native.Nat.{ℕ, zero, suc, _+_, _*_, _/_, _%_, _≤_, _<_}
+use native.Mathlib.Nat.{not-suc-le-zero, le-of-suc-le-suc, eq-or-lt-of-le, zero-mul, suc-mul, add-zero, zero-add, add-assoc, le-refl, mul-one, mul-zero, mul-add, mod-lt, div-add-mod', div-lt-iff-lt-mul}
 use native.Mathlib.Numerals.{add-one}
 use native.Mathlib.Omega.{arith}
 use lib.ListN.{length, getD, take, drop, length-append, take-append-drop, List·getD-append}
 use lib.Seq.{getD-append-add, getD-at, take-suc, split-at, length-take-le, take-append-seam, drop-append-seam}
-use Rattle.prelude.specs.Blocks.{each, flatten, pairsFrom}
+use Rattle.prelude.specs.Lists.{Each}
+use Rattle.prelude.specs.Lists.Laws.{each-join}
+use Rattle.prelude.specs.Blocks.{each, for, flatten, pairsFrom}
 use Rattle.prelude.specs.Written.{written}
 use Rattle.prelude.specs.Written.Laws.{written-append}
+
+-- a product above a number has a second factor above 0
+pub divisor-pos : (n m j : ℕ) → j < n * m → 0 < m
+divisor-pos n zero j l = absurd (omega (arith, mul-zero n))
+divisor-pos n (suc m) j l = omega arith
+
+-- quotient and remainder of a number below a product
+pub quotient-low : (n m j : ℕ) → j < n * m → j / m < n
+quotient-low n m j l = div-lt-iff-lt-mul (divisor-pos n m j l) .1 l
+
+pub remainder-low : (n m j : ℕ) → j < n * m → j % m < m
+remainder-low n m j l = mod-lt j (divisor-pos n m j l)
+
+-- the three digits of a number: of a step, an end, and what comes below
+pub digits-low : (m a b j : ℕ) → j < m * (a * b) → (0 < a * b) × (j / (a * b) < m) × (j % (a * b) / b < a) × (j % (a * b) % b < b)
+digits-low m a b j l =
+    let i : j % (a * b) < a * b = remainder-low m (a * b) j l in
+    (divisor-pos m (a * b) j l, quotient-low m (a * b) j l, quotient-low a b (j % (a * b)) i, remainder-low a b (j % (a * b)) i)
 
 module _ {A : Type 0} where
   -- one block more
@@ -58,6 +78,23 @@ module _ {A : Type 0} where
       let e : length (each i f) ≡ i * m = each-length i m f (λ a b. h a (omega arith)) in
       rw (← e) (each-index n i j f d l (rw (h i l) k))
 
+  -- blocks from 0 on
+  pub for-zero : (n : ℕ) (f : ℕ → List A) → for 0 n f ≡ each n f
+  for-zero n f = each-same n (λ i. f (0 + i)) f (λ i l. ap f (zero-add i))
+
+  -- blocks from 1 on, with the one that follows them
+  pub for-last : (n : ℕ) (f : ℕ → List A) → for 1 n f ++ f (n + 1) ≡ for 1 (n + 1) f
+  for-last n f =
+      let e : n + 1 ≡ 1 + n = omega arith in
+      ap (λ (x : ℕ). for 1 n f ++ f x) e ∙ sym (each-more n (λ i. f (1 + i)))
+
+  -- entry j of blocks of one length: the quotient is the block, the remainder the place in it
+  pub each-div : (n m j : ℕ) (f : ℕ → List A) (d : A) → ((i : ℕ) → i < n → length (f i) ≡ m) → j < n * m
+      → getD (each n f) j d ≡ getD (f (j / m)) (j % m) d
+  each-div n m j f d h l =
+      ap (λ (x : ℕ). getD (each n f) x d) (sym (div-add-mod' j m))
+      ∙ each-at n m (j / m) (j % m) f d h (quotient-low n m j l) (remainder-low n m j l)
+
   -- blocks of one entry: how many
   pub singles-length : (n : ℕ) (h : ℕ → A) → length (each n (λ i. h i ∷ [])) ≡ n
   singles-length n h = each-length n 1 (λ i. h i ∷ []) (λ i l. refl) ∙ mul-one n
@@ -67,6 +104,12 @@ module _ {A : Type 0} where
   singles-at n i h d l =
       let e : i * 1 + 0 ≡ i = omega arith in
       rw e at (each-at n 1 i 0 (λ i. h i ∷ []) d (λ i l. refl) l (omega arith))
+
+  -- what holds of each element of each block holds of each element of the whole
+  pub each-blocks : (P : A → Type 0) (n : ℕ) (f : ℕ → List A) → ((i : ℕ) → i < n → Each P (f i)) → Each P (each n f)
+  unfolding each
+  each-blocks P zero f h = tt
+  each-blocks P (suc n) f h = each-join P (each n f) (f n) (each-blocks P n f (λ i l. h i (omega arith))) (h n (omega arith))
 
   -- two lists of lists joined
   pub flatten-append : (a b : List (List A)) → flatten (a ++ b) ≡ flatten a ++ flatten b
@@ -104,6 +147,20 @@ module _ {A : Type 0} where
   flatten-length (suc n) m f h =
       ap length (flatten-append (each n f) (f n)) ∙ length-append (flatten (each n f)) (flatten (f n))
       ∙ ap₂ (λ (x y : ℕ). x + y) (flatten-length n m f (λ i l. h i (omega arith))) (h n (omega arith)) ∙ sym (suc-mul n m)
+
+  -- two lists of lists, of b elements each
+  pub flatten-both : (b : ℕ) (F G : List (List A)) → length (flatten F) ≡ b * length F → length (flatten G) ≡ b * length G
+      → length (flatten (F ++ G)) ≡ b * length (F ++ G)
+  flatten-both b F G f g =
+      ap length (flatten-append F G) ∙ length-append (flatten F) (flatten G) ∙ ap₂ (λ (x y : ℕ). x + y) f g
+      ∙ sym (mul-add b (length F) (length G)) ∙ ap (λ (x : ℕ). b * x) (sym (length-append F G))
+
+  -- blocks of lists, of b elements each
+  pub flatten-each : (b n : ℕ) (f : ℕ → List (List A)) → ((i : ℕ) → length (flatten (f i)) ≡ b * length (f i))
+      → length (flatten (each n f)) ≡ b * length (each n f)
+  unfolding each flatten
+  flatten-each b zero f h = sym (mul-zero b)
+  flatten-each b (suc n) f h = flatten-both b (each n f) (f n) (flatten-each b n f h) (h n)
 
   -- pairs of two lists of lists joined
   pub pairs-append : (at : ℕ) (a b : List (List A)) → pairsFrom at (a ++ b) ≡ pairsFrom at a ++ pairsFrom (at + length (flatten a)) b
@@ -152,7 +209,7 @@ module _ {A : Type 0} where
       ∙ ap (written l 0) (sym (pairs-more F k h))
 
   -- list k with what stands before and after it
-  flatten-split : (F : List (List A)) (k : ℕ) → k < length F
+  pub flatten-split : (F : List (List A)) (k : ℕ) → k < length F
       → flatten F ≡ flatten (take k F) ++ (getD F k [] ++ flatten (drop (suc k) F))
   unfolding flatten
   flatten-split F k h = ap flatten (split-at F k [] h) ∙ flatten-append (take k F) (getD F k [] ∷ drop (suc k) F)

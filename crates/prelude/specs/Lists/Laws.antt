@@ -6,7 +6,7 @@ use mathlib.Core.Logic.{⊎-elim}
 use Prim.Native.Nat.{ℕ, zero, suc, _+_, _-_, _≤_, _<_}
 use native.Mathlib.Omega.{arith}
 use lib.Dec.{T, eqb, eqb→eq, eqb-refl}
-use lib.ListN.{length, getD}
+use lib.ListN.{length, getD, take}
 use lib.Seq.{getD-append-add}
 use Rattle.prelude.specs.Tests.{T-eq, T-of, not-true-false, and-in, and-l, and-r, or-l, or-r, or-cases, le?, cond-true, cond-false}
 use Rattle.prelude.specs.Lists.{equalLists, anyFrom, allFrom, tab, firstOf, Each}
@@ -99,6 +99,19 @@ module _ {A : Type 0} where
   getD-tab a (suc n) f (suc i) d h =
       getD-tab (suc a) n f i d (omega arith) ∙ ap f (let z : suc a + i ≡ a + suc i = omega arith in z)
 
+  -- one value more
+  pub tab-more : (a n : ℕ) (f : ℕ → A) → tab a (suc n) f ≡ tab a n f ++ (f (a + n) ∷ [])
+  tab-more a zero f = ap (λ (x : ℕ). f x ∷ []) (let z : a ≡ a + 0 = omega arith in z)
+  tab-more a (suc n) f =
+      ap (λ (l : List A). f a ∷ l) (tab-more (suc a) n f)
+      ∙ ap (λ (x : ℕ). f a ∷ (tab (suc a) n f ++ (f x ∷ []))) (let z : suc a + n ≡ a + suc n = omega arith in z)
+
+  -- the first values
+  pub take-tab : (a n k : ℕ) (f : ℕ → A) → k ≤ n → take k (tab a n f) ≡ tab a k f
+  take-tab a n zero f h = refl
+  take-tab a zero (suc k) f h = absurd (omega arith)
+  take-tab a (suc n) (suc k) f h = ap (λ (l : List A). f a ∷ l) (take-tab (suc a) n k f (omega arith))
+
   -- an entry of two lists joined, in the second
   pub getD-right : (a b : List A) (k : ℕ) (d : A) → length a ≤ k → getD (a ++ b) k d ≡ getD b (k - length a) d
   getD-right a b k d h =
@@ -152,3 +165,24 @@ module _ {A : Type 0} where
   pub each-in : (P : A → Type 0) (l : List A) (d : A) → ((i : ℕ) → i < length l → P (getD l i d)) → Each P l
   each-in P [] d h = tt
   each-in P (x ∷ l) d h = (h 0 (omega arith), each-in P l d (λ i g. h (suc i) (omega arith)))
+
+  -- what holds of each element of two lists holds of each of both joined
+  pub each-join : (P : A → Type 0) (a b : List A) → Each P a → Each P b → Each P (a ++ b)
+  each-join P [] b h g = g
+  each-join P (x ∷ a) b h g = (h .0, each-join P a b (h .1) g)
+
+  -- and of each element of the one that a test takes
+  pub each-cond : (P : A → Type 0) (t : Bool) (a b : List A) → (T t → Each P a) → (T (not t) → Each P b) → Each P (cond t a b)
+  each-cond P true a b h g = h tt
+  each-cond P false a b h g = g tt
+
+  -- what follows at each element
+  pub each-then : (P Q : A → Type 0) (l : List A) → ((x : A) → P x → Q x) → Each P l → Each Q l
+  each-then P Q [] f h = tt
+  each-then P Q (x ∷ l) f h = (f x (h .0), each-then P Q l f (h .1))
+
+  -- at any index, where it holds of what stands past the end
+  pub each-get : (P : A → Type 0) (l : List A) (d : A) → P d → Each P l → (i : ℕ) → P (getD l i d)
+  each-get P [] d p h i = p
+  each-get P (x ∷ l) d p h zero = h .0
+  each-get P (x ∷ l) d p h (suc i) = each-get P l d p (h .1) i

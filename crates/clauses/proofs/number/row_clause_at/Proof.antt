@@ -1,0 +1,127 @@
+-- The place is found, then the clause is made by the kind of its row. Assumes nothing.
+use Rattle.clauses.specs.Clause.Laws.{run-none}
+use Rattle.clauses.specs.Number.Laws.{row-past, row-on-clause, row-off-clause, place-on, place-off}
+use Rattle.request.specs.Numbers.Laws.{rows-shl, rows-high}
+use Prim.Native.Nat.{_^_}
+use mathlib.Core.Path.{sym, _∙_}
+use Prim.Native.Nat.{_<_}
+use native.Mathlib.Omega.{arith}
+use borrow.Author.Needs.{needs}
+use Rattle.clauses.proofs.number.row_clause_at.Statement.{statement}
+use Rattle.clauses.proofs.number.row_clause_at.Tie as tie
+
+place-of-requires : tie.Need-place-of-requires
+place-of-requires c κs = search needs
+
+cast-n : tie.Need-cast-n
+cast-n c = search needs
+
+cast-r : tie.Need-cast-r
+cast-r c = search needs
+
+shl-if1 : tie.Need-shl-if1
+shl-if1 c = search needs
+
+-- the row's number is below 2^n
+row-low : (c : tie.Else1) → c .before .before .before .place-of .result .row < 2 ^ (c .before .before .before .before .args .q .n)
+row-low c =
+    let s = c .before .before .before .before in
+    rw (rows-shl (s .args .q .n) 32 (s .pre .n-high) (omega arith)) at (c .if1 .left)
+
+returns : tie.Need-returns
+returns c =
+    let p = c .before .before .before in
+    let s = p .before in
+    run-none 0 ∙ row-past (s .args .q) (s .pre) (s .args .number) (p .place-of .result .row) (p .place-of .result .rest) (p .place-of .ensures)
+    (rw (rows-shl (s .args .q .n) 32 (s .pre .n-high) (omega arith)) at (c .if1 .taken))
+
+variables-before-requires : tie.Need-variables-before-requires
+variables-before-requires c κs =
+    let s = c .before .before .before .before in
+    let low = row-low c in
+    (s .pre, omega (arith, rows-high (s .args .q .n) (s .pre .n-high)))
+
+cast-row-on : tie.Need-cast-row-on
+cast-row-on c =
+    let s = c .before .before .before .before .before in
+    let low = row-low (c .before) in
+    omega (arith, rows-high (s .args .q .n) (s .pre .n-high))
+
+row-on-requires : tie.Need-row-on-requires
+row-on-requires c κs = search needs
+
+cast-on-row-at : tie.Need-cast-on-row-at
+cast-on-row-at c = search needs
+
+on-row-at-requires : tie.Need-on-row-at-requires
+on-row-at-requires c κs =
+    let r = c .before .before in
+    let v = r .before in
+    let p = v .before .before .before .before in
+    let s = p .before in
+    let g = s .pre in
+    let on = sym (r .row-on .ensures) ∙ c .before .if2 .taken in (
+      g .n-low,
+      g .n-high,
+      g .r-high,
+      g .m-high,
+      omega (arith, v .variables-before .ensures .1),
+      row-low (v .before),
+      place-on (s .args .q) g (s .args .number) (p .place-of .result .row) (p .place-of .result .rest) (p .place-of .ensures) (row-low (v .before)) on,
+    )
+
+returns-2 : tie.Need-returns-2
+returns-2 c =
+    let r = c .before .before .before in
+    let v = r .before in
+    let p = v .before .before .before .before in
+    let s = p .before in
+    let on = sym (r .row-on .ensures) ∙ c .before .before .if2 .taken in
+    c .on-row-at .ensures
+    ∙ row-on-clause (s .args .q) (s .pre) (s .args .number) (p .place-of .result .row) (p .place-of .result .rest) (v .variables-before .result)
+    (p .place-of .ensures) (row-low (v .before)) on (v .variables-before .ensures .0)
+
+off-row-at-requires : tie.Need-off-row-at-requires
+off-row-at-requires c κs =
+    let r = c .before in
+    let v = r .before in
+    let p = v .before .before .before .before in
+    let s = p .before in
+    let g = s .pre in
+    let off = sym (r .row-on .ensures) ∙ c .if2 .left in (
+      g .n-low,
+      g .n-high,
+      g .r-high,
+      omega (arith, v .variables-before .ensures .1),
+      row-low (v .before),
+      place-off (s .args .q) g (s .args .number) (p .place-of .result .row) (p .place-of .result .rest) (p .place-of .ensures) (row-low (v .before)) off,
+    )
+
+returns-3 : tie.Need-returns-3
+returns-3 c =
+    let r = c .before .before in
+    let v = r .before in
+    let p = v .before .before .before .before in
+    let s = p .before in
+    let off = sym (r .row-on .ensures) ∙ c .before .if2 .left in
+    c .off-row-at .ensures
+    ∙ row-off-clause (s .args .q) (s .pre) (s .args .number) (p .place-of .result .row) (p .place-of .result .rest) (v .variables-before .result)
+    (p .place-of .ensures) (row-low (v .before)) off (v .variables-before .ensures .0)
+
+pub row-clause-at-spec : {M : Type 1} → statement M
+row-clause-at-spec =
+    tie.close
+    (tie.spec
+    place-of-requires
+    cast-n
+    cast-r
+    shl-if1
+    returns
+    variables-before-requires
+    cast-row-on
+    row-on-requires
+    cast-on-row-at
+    on-row-at-requires
+    returns-2
+    off-row-at-requires
+    returns-3)

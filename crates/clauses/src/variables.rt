@@ -1,0 +1,57 @@
+// The variables' numbers.
+ghost use mathlib.Core.Path.{_≡_};
+ghost use Prim.Native.Nat.{_+_, _*_, _≤_, _<_};
+ghost use Rattle.clauses.specs.Formula.{pairNumber, X, P, L, W, S};
+
+// P
+pub(crate) fn pair_count(r: u32) -> u32
+    requires { ⌜ r ≤ 7 ⌝ }
+    ensures { λ x. ⌜ (x ≡ P r) × (x ≤ 120) ⌝ }
+{
+    let terminals = 2 * r + 2;
+    terminals * (terminals - 1) / 2
+}
+
+// X(i,j), i < j
+fn joined_up(r: u32, i: u32, j: u32) -> u32
+    requires { ⌜ (r ≤ 7) × (i < j) × (j < 2 * r + 2) ⌝ }
+    ensures { λ x. ⌜ (x ≡ pairNumber r i j) × (x < 1000) ⌝ }
+{
+    let terminals = 2 * r + 2;
+    i * (2 * terminals - i - 1) / 2 + (j - i)
+}
+
+// X(i,j), for any two terminals
+pub(crate) fn joined(r: u32, i: u32, j: u32) -> u32
+    requires { ⌜ (r ≤ 7) × (i < 2 * r + 2) × (j < 2 * r + 2) × (i ≡ j → ⊥) ⌝ }
+    ensures { λ x. ⌜ (x ≡ X r i j) × (x < 1000) ⌝ }
+{
+    if i < j {
+        return joined_up(r, i, j);
+    }
+    joined_up(r, j, i)
+}
+
+// L(s,v)
+pub(crate) fn chosen(n: u32, r: u32, s: u32, v: u32) -> u32
+    requires { ⌜ (n ≤ 4) × (r ≤ 7) × (s ≤ 7) × (v ≤ 8) ⌝ }
+    ensures { λ x. ⌜ (x ≡ L n r s v) × (x < 1000) ⌝ }
+{
+    pair_count(r) + 2 * n * s + v + 1
+}
+
+// W(t,e), and Z(t) at e = 2r + 1
+pub(crate) fn entered(r: u32, before: u32, t: u32, e: u32) -> u32
+    requires { ⌜ (r ≤ 7) × (before ≤ 10000) × (1 ≤ t) × (t ≤ 8) × (e ≤ 2 * r + 1) ⌝ }
+    ensures { λ x. ⌜ (x ≡ W r before t e) × (x ≤ 20000) ⌝ }
+{
+    before + (t - 1) * (2 * r + 1) + e
+}
+
+// S(i)
+pub(crate) fn side(before: u32, i: u32) -> u32
+    requires { ⌜ (before ≤ 10000) × (i ≤ 100) ⌝ }
+    ensures { λ x. ⌜ (x ≡ S before i) × (x ≤ 20000) ⌝ }
+{
+    before + i + 1
+}

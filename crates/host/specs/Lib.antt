@@ -1,0 +1,2 @@
+-- What the entries for a host answer. Assumes nothing.
+pub mod Entries

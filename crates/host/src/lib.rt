@@ -1,0 +1,46 @@
+// The entries that a host in C or C++ calls: numbers and slices in, a number out, 0 for "taken". A slice passes as a pointer and a
+// length. On a refusal the number behind an out-parameter stands.
+use dimacs::Answer;
+use request::Request;
+ghost use mathlib.Core.Path.{_≡_};
+ghost use lib.ListN.{length};
+ghost use Rattle.dimacs.specs.File.{numberOf, sizeAnswer, writeAnswer, fileWritten};
+ghost use Rattle.host.specs.Entries.{asked, bytesOr};
+
+// The size of a request's clause file.
+#[no_mangle]
+pub extern "C" fn nk_file_size(n: u8, table: u16, r: u8, m: u8, size: &mut u64) -> u32
+    ensures refusal { λ x. ⌜ x ≡ numberOf (sizeAnswer (asked n table r m)) ⌝ }
+    ensures size { λ _. ⌜ now (size .exit) ≡ bytesOr (now (size .entry)) (sizeAnswer (asked n table r m)) ⌝ }
+{
+    match dimacs::file_size(Request { n, table, r, m }) {
+        Answer::Bytes(k) => {
+            *size = k as u64;
+            0
+        }
+        Answer::Refused(x) => x as u32,
+    }
+}
+
+// Writes a request's clause file into the buffer.
+#[no_mangle]
+pub extern "C" fn nk_write_file(
+    n: u8,
+    table: u16,
+    r: u8,
+    m: u8,
+    buffer: &mut [u8],
+    length: &mut u64,
+) -> u32
+    ensures refusal { λ x. ⌜ x ≡ numberOf (writeAnswer (asked n table r m) (lib.ListN.length (now (buffer .entry)))) ⌝ }
+    ensures bytes { λ _. ⌜ now (buffer .exit) ≡ fileWritten (asked n table r m) (now (buffer .entry)) ⌝ }
+    ensures count { λ _. ⌜ now (length .exit) ≡ bytesOr (now (length .entry)) (writeAnswer (asked n table r m) (lib.ListN.length (now (buffer .entry)))) ⌝ }
+{
+    match dimacs::write_file(Request { n, table, r, m }, buffer) {
+        Answer::Bytes(count) => {
+            *length = count as u64;
+            0
+        }
+        Answer::Refused(number) => number as u32,
+    }
+}

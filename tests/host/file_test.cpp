@@ -1,0 +1,678 @@
+// Compares the proved library's clause files with those of the second
+// implementation, byte by byte.
+//
+//   c++ -std=c++17 -O2 -o file_test file_test.cpp LIBRARY.a
+//   file_test                  runs all groups of checks
+//   file_test --dump FOLDER    writes clause files for solvers, checks only these
+//
+// One line is printed for each group that fails. The last line is
+// "N passed, M failed", in groups. The exit status is 0 only if M is 0.
+
+#include <algorithm>
+#include <cstdint>
+#include <cstdio>
+#include <filesystem>
+#include <fstream>
+#include <string>
+#include <vector>
+
+#include "../second/clauses.hpp"
+#include "nordkelch.h"
+
+namespace {
+
+using second::Request;
+using Bytes = std::vector<std::uint8_t>;
+
+// ---------------------------------------------------------------------------
+// Pseudo-random numbers from a fixed seed (xorshift64*)
+// ---------------------------------------------------------------------------
+
+struct Random {
+    std::uint64_t state;
+    explicit Random(std::uint64_t seed) : state(seed * 2 + 0x9E3779B97F4A7C15u) {}
+    std::uint64_t next() {
+        state ^= state >> 12;
+        state ^= state << 25;
+        state ^= state >> 27;
+        return state * 0x2545F4914F6CDD1Du;
+    }
+};
+
+Random random_numbers(20240607);
+
+// ---------------------------------------------------------------------------
+// Groups of checks
+// ---------------------------------------------------------------------------
+
+unsigned groups_passed = 0;
+unsigned groups_failed = 0;
+unsigned long checks_made = 0;
+
+// One group. It keeps its first fault and counts the others.
+class Group {
+  public:
+    explicit Group(const std::string& name) : name_(name) {}
+
+    void check(bool good, const std::string& request, const std::string& what) {
+        checks_made++;
+        if (good) return;
+        if (faults_ == 0) first_ = request + ": " + what;
+        faults_++;
+    }
+
+    // Prints the line of a failed group.
+    void finish() {
+        if (faults_ == 0) {
+            groups_passed++;
+            return;
+        }
+        groups_failed++;
+        std::printf("FAILED %s: %s (%lu faults)\n", name_.c_str(), first_.c_str(), faults_);
+    }
+
+  private:
+    std::string name_;
+    std::string first_;
+    unsigned long faults_ = 0;
+};
+
+// ---------------------------------------------------------------------------
+// Requests as text
+// ---------------------------------------------------------------------------
+
+// The table as characters, row 0 first.
+std::string table_text(const Request& q) {
+    std::string text;
+    for (unsigned row = 0; row < (1u << q.n); row++) text += second::is_on(q, row) ? '1' : '0';
+    return text;
+}
+
+// A good request as its line, without the newline.
+std::string line_of(const Request& q) {
+    return std::to_string(q.n) + " " + table_text(q) + " " + std::to_string(q.r) + " " +
+           std::to_string(q.m);
+}
+
+// Any request as numbers, for those that are refused.
+std::string numbers_of(const Request& q) {
+    return "n=" + std::to_string(q.n) + " table=" + std::to_string(q.table) +
+           " r=" + std::to_string(q.r) + " M=" + std::to_string(q.m);
+}
+
+// ---------------------------------------------------------------------------
+// Calls of the library
+// ---------------------------------------------------------------------------
+
+std::uint32_t call_size(const Request& q, std::uint64_t& size) {
+    return nk_file_size(std::uint8_t(q.n), std::uint16_t(q.table), std::uint8_t(q.r),
+                        std::uint8_t(q.m), &size);
+}
+
+std::uint32_t call_write(const Request& q, std::uint8_t* buffer, std::size_t buffer_length,
+                         std::uint64_t& length) {
+    return nk_write_file(std::uint8_t(q.n), std::uint16_t(q.table), std::uint8_t(q.r),
+                         std::uint8_t(q.m), buffer, buffer_length, &length);
+}
+
+// Bytes kept before and after each lent buffer; they must stand.
+const std::size_t margin = 64;
+
+// One call of nk_write_file with a buffer inside a larger array of
+// pseudo-random bytes. `after` holds the whole array after the call, `before`
+// what it was.
+struct Writing {
+    Bytes before;
+    Bytes after;
+    std::size_t start;
+    std::uint64_t length_before;
+    std::uint64_t length;
+    std::uint32_t answer;
+};
+
+// A pool of pseudo-random bytes. Each array starts at another place of it.
+const Bytes& pool() {
+    static Bytes bytes;
+    if (bytes.empty()) {
+        bytes.resize(1u << 21);
+        for (auto& byte : bytes) byte = std::uint8_t(random_numbers.next() >> 40);
+    }
+    return bytes;
+}
+
+Writing write_inside(const Request& q, std::size_t buffer_length) {
+    Writing w;
+    w.start = margin + random_numbers.next() % 8;
+    const std::size_t all = w.start + buffer_length + margin;
+    const std::size_t from = random_numbers.next() % (pool().size() - all);
+    w.before.assign(pool().begin() + std::ptrdiff_t(from),
+                    pool().begin() + std::ptrdiff_t(from + all));
+    w.after = w.before;
+    w.length_before = random_numbers.next();
+    w.length = w.length_before;
+    w.answer = call_write(q, w.after.data() + w.start, buffer_length, w.length);
+    return w;
+}
+
+// ---------------------------------------------------------------------------
+// Checks of one request
+// ---------------------------------------------------------------------------
+
+// Where two arrays of one size differ first, or "equal".
+std::string first_difference(const Bytes& have, const Bytes& want, std::size_t start) {
+    for (std::size_t i = 0; i < have.size(); i++) {
+        if (have[i] == want[i]) continue;
+        return "byte " + std::to_string(long(i) - long(start)) + " is " + std::to_string(have[i]) +
+               ", not " + std::to_string(want[i]);
+    }
+    return "equal";
+}
+
+// A buffer that is long enough: the file's bytes, its length, the rest stands.
+void check_written(Group& group, const Request& q, const std::string& file, std::size_t room) {
+    const std::string who = line_of(q), where = "buffer of " + std::to_string(room) + " bytes: ";
+    const Writing w = write_inside(q, room);
+    Bytes want = w.before;
+    std::copy(file.begin(), file.end(), want.begin() + std::ptrdiff_t(w.start));
+    group.check(w.answer == 0, who, where + "answer " + std::to_string(w.answer) + ", not 0");
+    group.check(w.length == file.size(), who,
+                where + "length " + std::to_string(w.length) + ", not " +
+                    std::to_string(file.size()));
+    const bool same = w.after == want;
+    group.check(same, who, same ? "" : where + first_difference(w.after, want, w.start));
+}
+
+// A refused call of nk_write_file: the number, and all stands.
+void check_refused_write(Group& group, const Request& q, const std::string& who, unsigned number,
+                         std::size_t room) {
+    const std::string where = "refused, buffer of " + std::to_string(room) + " bytes: ";
+    const Writing w = write_inside(q, room);
+    group.check(w.answer == number, who,
+                where + "answer " + std::to_string(w.answer) + ", not " + std::to_string(number));
+    group.check(w.length == w.length_before, who, where + "length is written");
+    const bool same = w.after == w.before;
+    group.check(same, who, same ? "" : where + first_difference(w.after, w.before, w.start));
+}
+
+// A refused call of nk_file_size: the number, and the size stands.
+void check_refused_size(Group& group, const Request& q, const std::string& who, unsigned number) {
+    const std::uint64_t before = random_numbers.next();
+    std::uint64_t size = before;
+    const std::uint32_t answer = call_size(q, size);
+    group.check(answer == number, who,
+                "size answers " + std::to_string(answer) + ", not " + std::to_string(number));
+    group.check(size == before, who, "refused, but size is written");
+}
+
+// The size of a good request: from the length to 8(T+C)+32. Gives the size.
+std::uint64_t check_size(Group& group, const Request& q, std::size_t length) {
+    unsigned V = 0, C = 0, T = 0;
+    second::counts(q, V, C, T);
+    const std::uint64_t bound = 8 * (std::uint64_t(T) + C) + 32;
+    std::uint64_t size = random_numbers.next();
+    const std::uint32_t answer = call_size(q, size);
+    group.check(answer == 0, line_of(q), "size answers " + std::to_string(answer) + ", not 0");
+    group.check(size >= length, line_of(q),
+                "size " + std::to_string(size) + " is below the length " + std::to_string(length));
+    group.check(size <= bound, line_of(q),
+                "size " + std::to_string(size) + " is above " + std::to_string(bound));
+    return size;
+}
+
+// The second implementation against itself: counts by formula, counts of the
+// clauses, every literal from 1 to V.
+void check_counts(Group& group, const Request& q) {
+    unsigned V = 0, C = 0, T = 0;
+    second::counts(q, V, C, T);
+    const auto all = second::clauses(q);
+    std::size_t literals = 0;
+    bool inside = true;
+    std::vector<bool> named(V + 1, false);
+    for (const auto& clause : all) {
+        literals += clause.size();
+        for (int literal : clause) {
+            const unsigned variable = unsigned(literal < 0 ? -literal : literal);
+            if (variable < 1 || variable > V) {
+                inside = false;
+            } else {
+                named[variable] = true;
+            }
+        }
+    }
+    const bool every = std::count(named.begin() + 1, named.end(), true) == long(V);
+    group.check(all.size() == C, line_of(q), "second: C is not the number of clauses");
+    group.check(literals == T, line_of(q), "second: T is not the number of literals");
+    group.check(inside, line_of(q), "second: a variable outside 1 to V");
+    group.check(every, line_of(q), "second: a variable that no clause names");
+}
+
+// All checks of a good request against the file that it must have.
+void check_file(Group& group, const Request& q, const std::string& file) {
+    const std::size_t length = file.size();
+    const std::uint64_t size = check_size(group, q, length);
+    check_written(group, q, file, length);
+    check_written(group, q, file, length + 1 + random_numbers.next() % 300);
+    check_refused_write(group, q, line_of(q), 6, length - 1);
+    check_refused_write(group, q, line_of(q), 6, random_numbers.next() % length);
+    check_refused_write(group, q, line_of(q), 6, 0);
+    // A buffer of the size that the library itself asked for.
+    if (size >= length && size < 1000000) check_written(group, q, file, std::size_t(size));
+}
+
+// ---------------------------------------------------------------------------
+// Groups for each n, r, M
+// ---------------------------------------------------------------------------
+
+// The tables for one (n, r, M): every table for n = 1 and 2, and for n = 3 if
+// the files are small; otherwise fixed patterns and some pseudo-random ones.
+std::vector<unsigned> tables_for(unsigned n, unsigned r, unsigned m) {
+    const unsigned rows = 1u << n, all_on = (1u << rows) - 1;
+    std::vector<unsigned> tables;
+    if (n <= 2 || (n == 3 && r <= 2 && m <= 2)) {
+        for (unsigned table = 0; table <= all_on; table++) tables.push_back(table);
+        return tables;
+    }
+    // All off, all on, row 0, the last row, each input or its complement,
+    // odd number of ones, at least half of the ones.
+    const unsigned fixed[] = {0x0000, 0xFFFF, 0x0001, 1u << (rows - 1), 0xAAAA,
+                              0x3333, 0x00FF, 0x6996, 0xE8E8};
+    for (unsigned table : fixed) tables.push_back(table & all_on);
+    const unsigned more = r <= 3 ? 12 : 4;
+    for (unsigned k = 0; k < more; k++) {
+        tables.push_back(unsigned(random_numbers.next() >> 32) & all_on);
+    }
+    return tables;
+}
+
+void group_of(unsigned n, unsigned r, unsigned m) {
+    Group group("n=" + std::to_string(n) + " r=" + std::to_string(r) + " M=" + std::to_string(m));
+    for (unsigned table : tables_for(n, r, m)) {
+        const Request q = {n, table, r, m};
+        check_counts(group, q);
+        check_file(group, q, second::file(q));
+    }
+    group.finish();
+}
+
+void groups_of_files() {
+    for (unsigned n = 1; n <= 4; n++) {
+        for (unsigned r = 0; r <= 7; r++) {
+            for (unsigned m = 0; m <= 7; m++) group_of(n, r, m);
+        }
+    }
+}
+
+// ---------------------------------------------------------------------------
+// Groups for refused requests
+// ---------------------------------------------------------------------------
+
+// The number comes before the short buffer too: room 0 gives 2 to 5, not 6.
+void check_refused(Group& group, const Request& q, unsigned number) {
+    check_refused_size(group, q, numbers_of(q), number);
+    check_refused_write(group, q, numbers_of(q), number, 4096);
+    check_refused_write(group, q, numbers_of(q), number, 0);
+}
+
+// Requests with the number that is expected, written out.
+void group_refused_by_hand() {
+    struct Row {
+        Request q;
+        unsigned number;
+    };
+    const Row rows[] = {
+        {{0, 0x0000, 0, 0}, 2},   {{5, 0x0000, 0, 0}, 2},     {{255, 0x0000, 0, 0}, 2},
+        {{0, 0xFFFF, 8, 8}, 2},   {{5, 0xFFFF, 255, 255}, 2}, {{16, 0x0001, 8, 0}, 2},
+        {{1, 0x0004, 0, 0}, 3},   {{1, 0x8000, 0, 0}, 3},     {{1, 0x0007, 7, 7}, 3},
+        {{2, 0x0010, 0, 0}, 3},   {{2, 0xFFFF, 8, 8}, 3},     {{2, 0x8000, 1, 8}, 3},
+        {{3, 0x0100, 0, 0}, 3},   {{3, 0x8000, 255, 0}, 3},   {{3, 0xFF00, 255, 255}, 3},
+        {{1, 0x0003, 8, 0}, 4},   {{1, 0x0000, 255, 0}, 4},   {{2, 0x000F, 8, 8}, 4},
+        {{3, 0x00FF, 8, 255}, 4}, {{4, 0xFFFF, 8, 8}, 4},     {{4, 0x8000, 255, 255}, 4},
+        {{1, 0x0003, 0, 8}, 5},   {{2, 0x000F, 7, 8}, 5},     {{3, 0x00FF, 7, 255}, 5},
+        {{4, 0xFFFF, 7, 8}, 5},   {{4, 0x0000, 0, 255}, 5},   {{4, 0x0000, 7, 128}, 5},
+    };
+    Group group("refused requests, by hand");
+    for (const Row& row : rows) check_refused(group, row.q, row.number);
+    group.finish();
+}
+
+// Every mixture of good and bad fields, the number from the second
+// implementation.
+void group_refused_mixtures() {
+    Group group("refused requests, mixtures");
+    const unsigned tables[] = {0, 1, 3, 4, 8, 15, 16, 128, 255, 256, 0x8000, 0xFFFF};
+    const unsigned bounds[] = {0, 1, 7, 8, 9, 127, 128, 254, 255};
+    for (unsigned n : {0u, 1u, 2u, 3u, 4u, 5u, 6u, 16u, 128u, 255u}) {
+        for (unsigned table : tables) {
+            for (unsigned r : bounds) {
+                for (unsigned m : bounds) {
+                    const Request q = {n, table, r, m};
+                    const int number = second::refusal(q);
+                    if (number != 0) check_refused(group, q, unsigned(number));
+                }
+            }
+        }
+    }
+    group.finish();
+}
+
+// One call of nk_file_size: the right number, and a size only if it is taken.
+void check_taken_or_refused(Group& group, const Request& q) {
+    const int number = second::refusal(q);
+    if (number != 0) {
+        check_refused_size(group, q, numbers_of(q), unsigned(number));
+    } else {
+        check_size(group, q, 1);
+    }
+}
+
+// Every value of one field, the others good.
+void group_every_value() {
+    Group group("every value of n, r, M and the table");
+    for (unsigned value = 0; value <= 255; value++) {
+        check_taken_or_refused(group, {value, 0, 0, 0});
+        for (unsigned n = 1; n <= 4; n++) {
+            check_taken_or_refused(group, {n, 1, value, 0});
+            check_taken_or_refused(group, {n, 1, 1, value});
+        }
+    }
+    for (unsigned n = 1; n <= 4; n++) {
+        for (unsigned table = 0; table <= 0xFFFF; table++) {
+            check_taken_or_refused(group, {n, table, 0, 0});
+        }
+    }
+    group.finish();
+}
+
+// ---------------------------------------------------------------------------
+// Expected values that are written out
+// ---------------------------------------------------------------------------
+
+// A file written out by hand. The library and the second implementation must
+// both give it.
+void group_of_text(const std::string& name, const Request& q, const std::string& file) {
+    Group group(name);
+    group.check(second::file(q) == file, line_of(q), "second: another file");
+    check_file(group, q, file);
+    group.finish();
+}
+
+// "For "1 00 0 0" the file program prints"
+void group_p1() {
+    group_of_text("P1", {1, 0, 0, 0},
+                  "p cnf 5 8\n"
+                  "-2 0\n"
+                  "3 0\n"
+                  "-1 -2 3 0\n"
+                  "-1 2 -3 0\n"
+                  "-4 0\n"
+                  "5 0\n"
+                  "-1 -4 5 0\n"
+                  "-1 4 -5 0\n");
+}
+
+// "P2 "1 01 1 1": V 15, C 38", with the whole file worked out on paper.
+// X is 1 to 6, L 7 and 8, S 9 to 12, W 13 and 14, Z 15.
+void group_p2() {
+    group_of_text("P2", {1, 2, 1, 1},
+                  "p cnf 15 38\n"
+                  "-1 -4 2 0\n-1 -2 4 0\n-2 -4 1 0\n"
+                  "-1 -5 3 0\n-1 -3 5 0\n-3 -5 1 0\n"
+                  "-2 -6 3 0\n-2 -3 6 0\n-3 -6 2 0\n"
+                  "-4 -6 5 0\n-4 -5 6 0\n-5 -6 4 0\n"
+                  "7 8 0\n-7 -8 0\n"
+                  "-9 0\n12 0\n"
+                  "-1 -9 10 0\n-1 9 -10 0\n"
+                  "-2 -9 11 0\n-2 9 -11 0\n"
+                  "-3 -9 12 0\n-3 9 -12 0\n"
+                  "-4 -10 11 0\n-4 10 -11 0\n"
+                  "-5 -10 12 0\n-5 10 -12 0\n"
+                  "-6 -11 12 0\n-6 11 -12 0\n"
+                  "-8 -10 11 0\n-8 10 -11 0\n"
+                  "13 14 15 0\n"
+                  "-13 -8 0\n-14 -8 0\n"
+                  "-13 1 0\n-14 2 0\n-15 3 0\n"
+                  "-13 6 0\n-14 5 0\n");
+}
+
+// "P3 r = M = 7, n = 4, all on: 1,856 and 27,547", and T = 77,088.
+void group_p3() {
+    Group group("P3");
+    const Request q = {4, 0xFFFF, 7, 7};
+    const std::string head = "p cnf 1856 27547\n";
+    unsigned V = 0, C = 0, T = 0;
+    second::counts(q, V, C, T);
+    group.check(V == 1856, line_of(q), "second: V is not 1856");
+    group.check(C == 27547, line_of(q), "second: C is not 27547");
+    group.check(T == 77088, line_of(q), "second: T is not 77088");
+
+    // 8(T+C)+32 = 837112 bytes are enough.
+    const Writing w = write_inside(q, 837112);
+    const std::size_t length = std::size_t(std::min<std::uint64_t>(w.length, 837112));
+    const std::string file(w.after.begin() + std::ptrdiff_t(w.start),
+                           w.after.begin() + std::ptrdiff_t(w.start + length));
+    const auto lines = std::count(file.begin(), file.end(), '\n');
+    const auto spaces = std::count(file.begin(), file.end(), ' ');
+    group.check(w.answer == 0, line_of(q), "answer is not 0");
+    group.check(file.compare(0, head.size(), head) == 0, line_of(q), "another first line");
+    group.check(lines == 27547 + 1, line_of(q), "not 27548 lines");
+    // One space follows each literal, and three are in the first line.
+    group.check(spaces == 77088 + 3, line_of(q), "not 77088 literals");
+    group.finish();
+}
+
+// The request of P4: an on row without switches, after an off row.
+void group_p4() {
+    group_of_text("the request of P4", {1, 2, 0, 1},
+                  "p cnf 4 6\n-2 0\n3 0\n-1 -2 3 0\n-1 2 -3 0\n4 0\n-4 1 0\n");
+}
+
+// "1 11 1 2", worked out on paper: it shows the order of the clauses with Z
+// (reading 15), and that g = e stays (reading 16). X is 1 to 6, L 7 and 8;
+// the first row's W and Z are 9 to 14, the second's 15 to 20.
+void group_order() {
+    group_of_text("order of the clauses of an on row", {1, 3, 1, 2},
+                  "p cnf 20 44\n"
+                  "-1 -4 2 0\n-1 -2 4 0\n-2 -4 1 0\n"
+                  "-1 -5 3 0\n-1 -3 5 0\n-3 -5 1 0\n"
+                  "-2 -6 3 0\n-2 -3 6 0\n-3 -6 2 0\n"
+                  "-4 -6 5 0\n-4 -5 6 0\n-5 -6 4 0\n"
+                  "7 8 0\n-7 -8 0\n"
+                  "9 10 11 0\n12 13 14 0\n"
+                  "-9 -7 0\n-10 -7 0\n-12 -7 0\n-13 -7 0\n"
+                  "-9 1 0\n-10 2 0\n-11 3 0\n"
+                  "-9 -12 4 0\n-9 -14 6 0\n-10 -13 4 0\n-10 -14 5 0\n"
+                  "-12 6 0\n-13 5 0\n"
+                  "15 16 17 0\n18 19 20 0\n"
+                  "-15 -8 0\n-16 -8 0\n-18 -8 0\n-19 -8 0\n"
+                  "-15 1 0\n-16 2 0\n-17 3 0\n"
+                  "-15 -18 4 0\n-15 -20 6 0\n-16 -19 4 0\n-16 -20 5 0\n"
+                  "-18 6 0\n-19 5 0\n");
+}
+
+// "A constant table holds the rows on which each input is 1, for n = 1 to 4,
+// in hexadecimal: 2; C A; F0 CC AA; FF00 F0F0 CCCC AAAA."
+void group_inputs() {
+    const unsigned table[4][4] = {
+        {0x2, 0, 0, 0}, {0xC, 0xA, 0, 0}, {0xF0, 0xCC, 0xAA, 0}, {0xFF00, 0xF0F0, 0xCCCC, 0xAAAA}};
+    Group group("second: rows on which each input is 1");
+    for (unsigned n = 1; n <= 4; n++) {
+        for (unsigned v = 0; v < n; v++) {
+            for (unsigned row = 0; row < (1u << n); row++) {
+                const bool one = ((table[n - 1][v] >> row) & 1) == 1;
+                const Request q = {n, 0, 0, 0};
+                group.check(second::literal_is_one(n, v, row) == one, line_of(q), "an input");
+                group.check(second::literal_is_one(n, n + v, row) != one, line_of(q),
+                            "a complement");
+            }
+        }
+    }
+    group.finish();
+}
+
+// Reading a request has no entry in the library; here the second
+// implementation is held against the examples of document 01 and of the
+// readings 1 to 7.
+void group_reading() {
+    struct Row {
+        std::string text;
+        int number;
+    };
+    const std::string many(60000, '0');
+    const Row rows[] = {
+        {"", 1},
+        {"\n", 1},
+        {"1 01 1 1", 1},
+        {" 1 01 1 1\n", 1},
+        {"1  01 1 1\n", 1},
+        {"1 01 1 1 \n", 1},
+        {"1 01 1\n", 1},
+        {"1 01 1 1 1\n", 1},
+        {"1 01 1 1\n\n", 1},
+        {"1 01 1 1\n1 01 1 1\n", 1},
+        {"1 01 1 1\r\n", 1},
+        {"1\t01 1 1\n", 1},
+        {"+1 01 1 1\n", 1},
+        {"1 0a 1 1\n", 1},
+        {"1 0- 1 1\n", 1},
+        {"1  1 1\n", 1},
+        {"9 x 9 9\n", 1},
+        {std::string("1 01 1 1\n\0", 10), 1},
+        {"0 01 1 1\n", 2},
+        {"5 01 1 1\n", 2},
+        {"01 01 1 1\n", 2},
+        {"11 01 1 1\n", 2},
+        {"9 2 9 9\n", 2},
+        {many + " 01 1 1\n", 2},
+        {"1 9 9 9\n", 3},
+        {"1 011 1 1\n", 3},
+        {"1 0 1 1\n", 3},
+        {"1 02 1 1\n", 3},
+        {"2 01 1 1\n", 3},
+        {"1 " + many + " 1 1\n", 3},
+        {"1 01 8 1\n", 4},
+        {"1 01 00 1\n", 4},
+        {"1 01 07 9\n", 4},
+        {"1 01 10 1\n", 4},
+        {"1 01 1 8\n", 5},
+        {"1 01 1 01\n", 5},
+        {"1 01 1 " + many + "\n", 5},
+    };
+    Group group("second: reading a request, refused");
+    for (const Row& row : rows) {
+        Request q = {90, 91, 92, 93};
+        const int number = second::read_request(row.text, q);
+        const bool stands = q.n == 90 && q.table == 91 && q.r == 92 && q.m == 93;
+        const std::string who = row.text.substr(0, 20);
+        group.check(number == row.number, who, "number " + std::to_string(number));
+        group.check(stands, who, "the request is written");
+    }
+    group.finish();
+}
+
+void check_read(Group& group, const std::string& text, const Request& want) {
+    Request q = {90, 91, 92, 93};
+    const int number = second::read_request(text, q);
+    const bool same = q.n == want.n && q.table == want.table && q.r == want.r && q.m == want.m;
+    group.check(number == 0 && same, text.substr(0, text.size() - 1), "read as " + numbers_of(q));
+}
+
+void group_reading_good() {
+    Group group("second: reading a request, taken");
+    check_read(group, "1 00 0 0\n", {1, 0x0, 0, 0});
+    check_read(group, "1 01 1 1\n", {1, 0x2, 1, 1});
+    check_read(group, "2 1000 7 0\n", {2, 0x1, 7, 0});
+    check_read(group, "2 0110 4 2\n", {2, 0x6, 4, 2});
+    check_read(group, "3 00000001 0 7\n", {3, 0x80, 0, 7});
+    check_read(group, "4 1100000000000001 7 7\n", {4, 0x8003, 7, 7});
+    check_read(group, "4 1111111111111111 7 7\n", {4, 0xFFFF, 7, 7});
+    group.finish();
+}
+
+// ---------------------------------------------------------------------------
+// Files for solvers
+// ---------------------------------------------------------------------------
+
+// Pairs of r and M for each n: every r and every M is there.
+const unsigned dumped_pairs[][2] = {{0, 0}, {0, 1}, {0, 7}, {1, 0}, {1, 1}, {1, 5}, {2, 2}, {2, 6},
+                                    {3, 1}, {3, 3}, {4, 2}, {4, 4}, {5, 2}, {6, 2}, {7, 3}};
+
+// A table for file number k of n: all on, all off, then pseudo-random ones
+// that are on where some chosen literals are 1, so that solvers stay quick.
+unsigned dumped_table(unsigned n, unsigned k) {
+    const unsigned all_on = (1u << (1u << n)) - 1;
+    if (k == 1) return all_on;
+    if (k == 2) return 0;
+    unsigned table = 0;
+    const unsigned u = unsigned((random_numbers.next() >> 33) % (2 * n));
+    const unsigned v = unsigned((random_numbers.next() >> 33) % (2 * n));
+    const unsigned w = unsigned((random_numbers.next() >> 33) % (2 * n));
+    for (unsigned row = 0; row < (1u << n); row++) {
+        const bool on = second::literal_is_one(n, u, row) &&
+                        (second::literal_is_one(n, v, row) || second::literal_is_one(n, w, row));
+        if (on) table |= 1u << row;
+    }
+    return table;
+}
+
+// Writes one file, as n_table_r_m.cnf. It is a group of its own.
+void dump_file(const std::filesystem::path& folder, const Request& q) {
+    const std::string name = std::to_string(q.n) + "_" + table_text(q) + "_" + std::to_string(q.r) +
+                             "_" + std::to_string(q.m) + ".cnf";
+    Group group(name);
+    std::uint64_t size = 0, length = 0;
+    group.check(call_size(q, size) == 0, line_of(q), "no size");
+    Bytes buffer(std::size_t(std::min<std::uint64_t>(size, 1000000)) + 1);
+    group.check(call_write(q, buffer.data(), buffer.size(), length) == 0, line_of(q), "refused");
+    group.check(length <= buffer.size(), line_of(q), "length above the buffer");
+    const auto count = std::streamsize(std::min<std::uint64_t>(length, buffer.size()));
+    const std::string text(buffer.begin(), buffer.begin() + std::ptrdiff_t(count));
+    group.check(text == second::file(q), line_of(q), "not the file of the second implementation");
+    std::ofstream out(folder / name, std::ios::binary);
+    out.write(text.data(), count);
+    out.close();
+    group.check(bool(out), line_of(q), "the file cannot be written");
+    group.finish();
+}
+
+void dump(const std::filesystem::path& folder) {
+    std::error_code ignored;
+    std::filesystem::create_directories(folder, ignored);
+    for (unsigned n = 1; n <= 4; n++) {
+        unsigned k = 0;
+        for (const auto& pair : dumped_pairs) {
+            dump_file(folder, {n, dumped_table(n, k), pair[0], pair[1]});
+            k++;
+        }
+    }
+}
+
+void run_all() {
+    group_p1();
+    group_p2();
+    group_p3();
+    group_p4();
+    group_order();
+    group_inputs();
+    group_reading();
+    group_reading_good();
+    group_refused_by_hand();
+    group_refused_mixtures();
+    group_every_value();
+    groups_of_files();
+}
+
+}  // namespace
+
+int main(int count, char** words) {
+    if (count == 3 && std::string(words[1]) == "--dump") {
+        dump(words[2]);
+    } else if (count == 1) {
+        run_all();
+    } else {
+        std::fprintf(stderr, "usage: file_test [--dump FOLDER]\n");
+        return 2;
+    }
+    std::printf("%lu checks\n", checks_made);
+    std::printf("%u passed, %u failed\n", groups_passed, groups_failed);
+    return groups_failed == 0 ? 0 : 1;
+}
