@@ -466,8 +466,8 @@ void group_p4() {
                   "p cnf 4 6\n-2 0\n3 0\n-1 -2 3 0\n-1 2 -3 0\n4 0\n-4 1 0\n");
 }
 
-// "1 11 1 2", worked out on paper: it shows the order of the clauses with Z
-// (reading 15), and that g = e stays (reading 16). X is 1 to 6, L 7 and 8;
+// "1 11 1 2", worked out on paper: it shows the order of the clauses with Z,
+// and that g = e stays. X is 1 to 6, L 7 and 8;
 // the first row's W and Z are 9 to 14, the second's 15 to 20.
 void group_order() {
     group_of_text("order of the clauses of an on row", {1, 3, 1, 2},
@@ -510,8 +510,8 @@ void group_inputs() {
 }
 
 // Reading a request has no entry in the library; here the second
-// implementation is held against the examples of document 01 and of the
-// readings 1 to 7.
+// implementation is held against the examples of document 01 and of its
+// readings in docs/DECISIONS.md.
 void group_reading() {
     struct Row {
         std::string text;

@@ -3,7 +3,7 @@
 // It was written from document 01 alone, without a look at the proved code,
 // by plain nested loops. Each part names, in quotes, the sentence of
 // document 01 that it follows. Where the document can be read in two ways,
-// the item of READINGS.md that was followed is named.
+// docs/DECISIONS.md has the reading that is followed.
 #pragma once
 
 #include <cstddef>
@@ -42,7 +42,7 @@ inline int refusal(const Request& q) {
     return 0;
 }
 
-// A digit is a byte 0 to 9 (reading 2).
+// A digit is a byte 0 to 9.
 inline bool is_digit(char c) { return c >= '0' && c <= '9'; }
 
 // Takes a non-empty run of digits that is followed by `end`. The place moves
@@ -58,13 +58,13 @@ inline bool take_run(const std::string& text, std::size_t& place, char end, std:
     return true;
 }
 
-// "each one character": a run of one digit, from `low` to `high` (reading 3).
+// "each one character": a run of one digit, from `low` to `high`.
 inline bool one_character(const std::string& run, char low, char high) {
     return run.size() == 1 && run[0] >= low && run[0] <= high;
 }
 
 // "The table has 2^n characters 0 or 1, row 0 first." Bit k is row k, so the
-// first character is bit 0 (reading 7).
+// first character is bit 0.
 inline bool table_of(const std::string& run, unsigned n, unsigned& table) {
     const std::size_t rows = std::size_t(1) << n;
     if (run.size() != rows) return false;
@@ -81,8 +81,7 @@ inline bool table_of(const std::string& run, unsigned n, unsigned& table) {
 // request. On a refusal `out` stands.
 inline int read_request(const std::string& text, Request& out) {
     // "single spaces between, newline (byte 10) last"; nothing comes after
-    // the newline (reading 1). The form of the whole line comes first
-    // (reading 4).
+    // the newline. The form of the whole line comes first.
     std::string n, table, r, m;
     std::size_t place = 0;
     const bool form = take_run(text, place, ' ', n) && take_run(text, place, ' ', table) &&
@@ -202,7 +201,7 @@ inline void counts(const Request& q, unsigned& V, unsigned& C, unsigned& T) {
     C = 3 * triples + r * (1 + n * (2 * n - 1));
     T = 9 * triples + r * (2 * n + 2 * n * (2 * n - 1));
 
-    // Group 3, on row. Of the 2n literals n are 0 on the row (reading 17).
+    // Group 3, on row. Of the 2n literals n are 0 on the row.
     // For each e there are 2r−1 clauses with g and one with Z: 2r.
     unsigned on_clauses = 1, on_literals = 1;
     if (M > 0) {
@@ -268,7 +267,7 @@ inline void on_row_steps(const Request& q, int B, std::vector<Clause>& all) {
 }
 
 // "Then for each t, e, and each v that is 0 on the row: (−W(t,e) −L(s,v)), s
-// the switch of e." The loops nest in this order (reading 14).
+// the switch of e." The loops nest in this order.
 inline void on_row_closed(const Request& q, unsigned row, int B, std::vector<Clause>& all) {
     const int M = int(q.m), ends = int(2 * q.r);
     for (int t = 1; t <= M; t++) {
@@ -290,7 +289,7 @@ inline void on_row_start(const Request& q, int B, std::vector<Clause>& all) {
 
 // "Then for t<M, for each e: for g = 1..2r except e' (−W(t,e) −W(t+1,g)
 // X(e',g)), then (−W(t,e) −Z(t+1) X(e',2r+1))." The clause with Z comes once
-// for each e, after that e's g (reading 15).
+// for each e, after that e's g.
 inline void on_row_links(const Request& q, int B, std::vector<Clause>& all) {
     const int M = int(q.m), ends = int(2 * q.r);
     for (int t = 1; t < M; t++) {
@@ -350,7 +349,7 @@ inline void off_row(const Request& q, unsigned row, int B, std::vector<Clause>& 
 }
 
 // "3. Rows rising." B is the number of variables of X, of L and of all lower
-// rows, on and off (reading 11): "Then rows rising. With B variables before
+// rows, on and off: "Then rows rising. With B variables before
 // it ...".
 inline void group_3(const Request& q, std::vector<Clause>& all) {
     int B = P(q) + int(2 * q.n * q.r);
@@ -388,7 +387,7 @@ inline void put_number(std::string& text, int number) {
 }
 
 // "The file is "p cnf V C", then a line per clause, " 0" last." Each line ends
-// with byte 10, the last too (reading 19).
+// with byte 10, the last too.
 inline std::string file(const Request& q) {
     unsigned V = 0, C = 0, T = 0;
     counts(q, V, C, T);

@@ -5,3 +5,4 @@ pub mod Pairs
 pub mod Values
 pub mod Count
 pub mod Number
+pub mod Named

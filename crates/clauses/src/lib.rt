@@ -6,6 +6,7 @@ use cnf::Literal;
 
 pub mod count;
 mod groups;
+pub mod named;
 pub mod number;
 mod off_row;
 mod on_row;

@@ -7,7 +7,7 @@ use native.Mathlib.Nat.{not-suc-le-zero, le-of-suc-le-suc, eq-or-lt-of-le, zero-
 use native.Mathlib.Numerals.{add-one}
 use native.Mathlib.Omega.{arith}
 use lib.ListN.{length, getD, take, drop, length-append, take-append-drop, List·getD-append}
-use lib.Seq.{getD-append-add, getD-at, take-suc, split-at, length-take-le, take-append-seam, drop-append-seam}
+use lib.Seq.{getD-append-add, getD-at, take-suc, split-at, length-take-le}
 use Rattle.prelude.specs.Lists.{Each}
 use Rattle.prelude.specs.Lists.Laws.{each-join}
 use Rattle.prelude.specs.Blocks.{each, for, flatten, pairsFrom}
@@ -189,14 +189,6 @@ module _ {A : Type 0} where
   pairs-before : (F : List (List A)) (k : ℕ) → k ≤ length F → length (pairsFrom 0 (take k F)) ≡ 2 * k
   pairs-before F k h = pairs-length 0 (take k F) ∙ ap (λ (i : ℕ). 2 * i) (length-take-le k F h)
 
-  -- a store one list further: its entries
-  pub store-more : (l : List A) (F : List (List A)) (k : ℕ) → k < length F → length (flatten F) ≤ length l
-      → written (written l 0 (flatten (take k F))) (length (flatten (take k F))) (getD F k []) ≡ written l 0 (flatten (take (k + 1) F))
-  store-more l F k h room =
-      let g = flatten-room F k h in
-      ap (λ (i : ℕ). written (written l 0 (flatten (take k F))) i (getD F k [])) (sym (zero-add (length (flatten (take k F)))))
-      ∙ written-append l 0 (flatten (take k F)) (getD F k []) (omega arith) ∙ ap (written l 0) (sym (flatten-more F k h))
-
   -- a store one list further: its pairs
   pub store-pairs-more : (l : List ℕ) (F : List (List A)) (k : ℕ) → k < length F → 2 * length F ≤ length l
       → written (written l 0 (pairsFrom 0 (take k F))) (2 * k) (length (flatten (take k F)) ∷ length (getD F k []) ∷ [])
@@ -233,11 +225,3 @@ module _ {A : Type 0} where
       ap (λ (l : List ℕ). getD l (2 * k + 1) 0) (pairs-split F k h)
       ∙ ap (λ (i : ℕ). getD (pairsFrom 0 (take k F) ++ rest) (i + 1) 0) (sym (pairs-before F k (omega arith)))
       ∙ getD-append-add (pairsFrom 0 (take k F)) rest 1 0
-
-  -- the entries that pair k names are list k
-  pub store-read : (F : List (List A)) (k : ℕ) → k < length F
-      → take (length (getD F k [])) (drop (length (flatten (take k F))) (flatten F)) ≡ getD F k []
-  store-read F k h =
-      ap (λ (l : List A). take (length (getD F k [])) (drop (length (flatten (take k F))) l)) (flatten-split F k h)
-      ∙ ap (take (length (getD F k []))) (drop-append-seam (flatten (take k F)) (getD F k [] ++ flatten (drop (suc k) F)))
-      ∙ take-append-seam (getD F k []) (flatten (drop (suc k) F))

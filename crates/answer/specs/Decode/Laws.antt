@@ -1,0 +1,105 @@
+-- Laws of decoding: the least number that passes a test, and an array filled from its start. Assumes nothing.
+use mathlib.Core.Path.{_≡_, sym, ap, ap₂, _∙_, subst}
+use mathlib.Core.Bool.{Bool, true, false, not, _||_}
+use mathlib.Core.List.{List, [], _∷_, _++_, append-assoc}
+use Prim.Native.Nat.{ℕ, suc, _+_, _-_, _*_, _≤_, _<_}
+use native.Mathlib.Numerals.{add-one}
+use native.Mathlib.Omega.{arith}
+use lib.Dec.{T, eqb, eqb→eq, eqb-refl, not-T}
+use mathlib.Core.Logic.{_⊎_, inl, inr}
+use lib.ListN.{getD, set, replicate}
+use lib.Seq.{set-at}
+use Rattle.prelude.specs.Tests.{T-of, or-l, or-r, or-cases}
+use Rattle.prelude.specs.Lists.{tab}
+use Rattle.prelude.specs.Lists.Laws.{length-tab, getD-tab, tab-more, first-is, first-none}
+use Rattle.clauses.specs.Formula.{terminals, X, L}
+use Rattle.clauses.specs.Named.{joinedNumber, chosenNumber}
+use Rattle.clauses.specs.Named.Laws.{joined-there, chosen-there}
+use Rattle.answer.specs.Decode.{lowest, literalFor, labelFor}
+use Rattle.answer.specs.Values.{assigned}
+
+-- an entry of the numbers below c
+pub entry : (c i : ℕ) → i < c → getD (tab 0 c (λ i. i)) i 0 ≡ i
+entry c i h = getD-tab 0 c (λ i. i) i 0 h ∙ (let z : 0 + i ≡ i = omega arith in z)
+
+-- the least number that passes a test, by index
+pub lowest-is : (p : ℕ → Bool) (c i : ℕ) → i < c → T (p i) → ((j : ℕ) → j < i → T (not (p j))) → lowest p c ≡ i
+unfolding lowest
+lowest-is p c i h t f =
+    let e = length-tab 0 c (λ i. i) in
+    first-is p (tab 0 c (λ i. i)) 0 i (omega arith) (subst (λ (x : ℕ). T (p x)) (sym (entry c i h)) t)
+    (λ j g. subst (λ (x : ℕ). T (not (p x))) (sym (entry c j (omega arith))) (f j g))
+
+-- no number below c passes it
+pub lowest-none : (p : ℕ → Bool) (c : ℕ) → ((j : ℕ) → j < c → T (not (p j))) → lowest p c ≡ c
+unfolding lowest
+lowest-none p c f =
+    let e = length-tab 0 c (λ i. i) in
+    first-none p (tab 0 c (λ i. i)) 0 (λ j g. subst (λ (x : ℕ). T (not (p x))) (sym (entry c j (omega arith))) (f j (omega arith))) ∙ e
+
+-- an array filled from its start, one entry further
+pub fill-more : (f : ℕ → ℕ) (c s : ℕ) → s < c
+    → set (tab 0 s f ++ replicate (c - s) 0) s (f s) ≡ tab 0 (s + 1) f ++ replicate (c - (s + 1)) 0
+fill-more f c s h =
+    let e : c - s ≡ suc (c - (s + 1)) = omega arith in
+    ap (λ (k : ℕ). set (tab 0 s f ++ replicate k 0) s (f s)) e ∙ set-at (tab 0 s f) 0 (replicate (c - (s + 1)) 0) (f s) s (length-tab 0 s f)
+    ∙ sym (append-assoc (tab 0 s f) (f s ∷ []) (replicate (c - (s + 1)) 0))
+    ∙ ap (λ (l : List ℕ). l ++ replicate (c - (s + 1)) 0)
+    (ap (λ (k : ℕ). tab 0 s f ++ (f k ∷ [])) (let z : s ≡ 0 + s = omega arith in z) ∙ sym (tab-more 0 s f) ∙ ap (λ (k : ℕ). tab 0 k f) (sym (add-one s)))
+
+-- the same of a value that is known to be the entry
+pub fill-next : (f : ℕ → ℕ) (c s x : ℕ) {l : List ℕ} → s < c → l ≡ tab 0 s f ++ replicate (c - s) 0 → x ≡ f s
+    → set l s x ≡ tab 0 (s + 1) f ++ replicate (c - (s + 1)) 0
+fill-next f c s x h e g = ap₂ (λ (l : List ℕ) (y : ℕ). set l s y) e g ∙ fill-more f c s h
+
+-- filled as far as it goes
+pub fill-end : (f : ℕ → ℕ) (c s k : ℕ) {l : List ℕ} → s ≡ k → l ≡ tab 0 s f ++ replicate (c - s) 0 → l ≡ tab 0 k f ++ replicate (c - k) 0
+fill-end f c s k e h = h ∙ ap (λ (j : ℕ). tab 0 j f ++ replicate (c - j) 0) e
+
+module _ (n r : ℕ) (values : List ℕ) (hn : n ≤ 4) (hr : r ≤ 7) (s : ℕ) (hs : s < r) where
+  -- the test of one literal, by its variable's number
+  chosen-test : (v x : ℕ) (b : Bool) → v < 2 * n → x ≡ chosenNumber n r s v → b ≡ assigned values x → b ≡ assigned values (L n r s v)
+  chosen-test v x b h e f = f ∙ ap (assigned values) (e ∙ chosen-there n r s v hn hr hs h)
+
+  -- a literal found, after those before it are not
+  pub literal-found : (v x : ℕ) (b : Bool) → v < 2 * n → x ≡ chosenNumber n r s v → b ≡ assigned values x → b ≡ true
+      → ((j : ℕ) → j < v → T (not (assigned values (L n r s j)))) → v ≡ literalFor n r (assigned values) s
+  unfolding literalFor
+  literal-found v x b h e f t g =
+      sym (lowest-is (λ v. assigned values (L n r s v)) (2 * n) v h (T-of (assigned values (L n r s v)) (sym (chosen-test v x b h e f) ∙ t)) g)
+
+  -- one that is not
+  pub literal-not : (v x : ℕ) (b : Bool) → v < 2 * n → x ≡ chosenNumber n r s v → b ≡ assigned values x → b ≡ false → T (not (assigned values (L n r s v)))
+  literal-not v x b h e f t = T-of (not (assigned values (L n r s v))) (ap not (sym (chosen-test v x b h e f) ∙ t))
+
+  pub literal-none : (v : ℕ) → 2 * n ≤ v → v ≤ 2 * n → ((j : ℕ) → j < v → T (not (assigned values (L n r s j)))) → v ≡ literalFor n r (assigned values) s
+  unfolding literalFor
+  literal-none v h k g =
+      let e : v ≡ 2 * n = omega arith in
+      e ∙ sym (lowest-none (λ v. assigned values (L n r s v)) (2 * n) (λ j l. g j (omega arith)))
+
+module _ (r : ℕ) (values : List ℕ) (hr : r ≤ 7) (i : ℕ) (hi : i < terminals r) where
+  -- the test of one terminal, by its variable's number
+  joined-test : (j x : ℕ) (b : Bool) → j < i → x ≡ joinedNumber r j i → b ≡ assigned values x → b ≡ assigned values (X r j i)
+  joined-test j x b h e f = f ∙ ap (assigned values) (e ∙ joined-there r j i hr (omega arith) hi (λ z. omega arith))
+
+  pub label-found : (j x : ℕ) (b : Bool) → j < i → x ≡ joinedNumber r j i → b ≡ assigned values x → b ≡ true
+      → ((k : ℕ) → k < j → T (not (eqb k i || assigned values (X r k i)))) → j ≡ labelFor r (assigned values) i
+  unfolding labelFor
+  label-found j x b h e f t g =
+      sym (lowest-is (λ j. eqb j i || assigned values (X r j i)) (i + 1) j (omega arith)
+      (or-r (eqb j i) (assigned values (X r j i)) (T-of (assigned values (X r j i)) (sym (joined-test j x b h e f) ∙ t))) g)
+
+  pub label-not : (j x : ℕ) (b : Bool) → j < i → x ≡ joinedNumber r j i → b ≡ assigned values x → b ≡ false → T (not (eqb j i || assigned values (X r j i)))
+  label-not j x b h e f t =
+      not-T (eqb j i || assigned values (X r j i)) (λ y. none (or-cases (eqb j i) (assigned values (X r j i)) y))
+    where
+      none : T (eqb j i) ⊎ T (assigned values (X r j i)) → ⊥
+      none (inl y) = let z = eqb→eq j i y in omega arith
+      none (inr y) = subst T (sym (joined-test j x b h e f) ∙ t) y
+
+  pub label-own : (j : ℕ) → i ≤ j → j ≤ i → ((k : ℕ) → k < j → T (not (eqb k i || assigned values (X r k i)))) → j ≡ labelFor r (assigned values) i
+  unfolding labelFor
+  label-own j h k g =
+      let e : j ≡ i = omega arith in
+      e ∙ sym (lowest-is (λ j. eqb j i || assigned values (X r j i)) (i + 1) i (omega arith) (or-l (eqb i i) (assigned values (X r i i)) (eqb-refl i)) (λ k l. g k (omega arith)))

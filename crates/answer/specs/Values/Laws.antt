@@ -1,0 +1,274 @@
+-- Laws of Values: where a number of the text ends, one number of a line and one turn over its numbers, and the tests of the values
+-- by index. Assumes nothing.
+use mathlib.Core.Path.{_≡_, refl, sym, ap, ap₂, _∙_, subst}
+use mathlib.Core.List.{List, [], _∷_}
+use mathlib.Core.Bool.{Bool, true, false, not, _||_, cond}
+use mathlib.Core.Logic.{_⊎_, inl, inr, ⊎-elim}
+use Prim.Native.Nat.{ℕ, zero, suc, _+_, _-_, _*_, _≤_, _<_}
+use native.Mathlib.Omega.{arith}
+use lib.Dec.{T, eqb}
+use lib.ListN.{length, getD, set}
+use borrow.Author.Tests.{le-leb, lt-leb, eq-eqb, ne-eqb, lt-ltb, le-ltb}
+use Rattle.prelude.specs.Tests.{T-eq, T-of, not-true-false, or-r, eq?, le?, neqb→ne, ne→neqb}
+use Rattle.prelude.specs.Lists.{allFrom, Each}
+use Rattle.prelude.specs.Lists.Laws.{all-in, all-out, each-out}
+use Rattle.cnf.specs.Cnf.{Assignment, Clause, pos, literalHolds, clauseHolds}
+use Rattle.cnf.specs.declared.Literal.{Literal}
+use Rattle.clauses.specs.Clause.{run}
+use Rattle.clauses.specs.Clause.Laws.{run-length, run-at}
+use Rattle.clauses.specs.Number.{clauseOf}
+use Rattle.request.specs.declared.Request.{Request}
+use Rattle.numeral.specs.declared.Word.{Word}
+use Rattle.numeral.specs.Number.{byteAt, isDigit, noWord, digitsAt, numberAt, literalAt}
+use Rattle.numeral.specs.Number.Laws.{byte-past, digit-yes, digit-low, digit-high, number-none}
+use Rattle.answer.specs.declared.values.Named.{Named}
+use Rattle.answer.specs.Values.{named, refusedBy, keptBy, namedOne, namedFrom, complete, assigned, holding}
+
+-- ---- where a number ends: inside the text, with a minus of at most 1
+pub record Within (t : List ℕ) (w : Word) : Type 0 where
+  pub high : w .next ≤ length t
+  pub sign : w .minus ≤ 1
+
+-- a byte other than 0 stands inside the text
+byte-in : (t : List ℕ) (p : ℕ) → (byteAt t p ≡ 0 → ⊥) → p < length t
+byte-in t p d = ⊎-elim (λ h. absurd (d (byte-past t p h))) (λ h. h) (le? (length t) p)
+
+-- the two ways of a test of digits
+digit? : (b : ℕ) → (isDigit b ≡ false) ⊎ ((isDigit b ≡ true) × (48 ≤ b))
+digit? b =
+    ⊎-elim (λ l. ⊎-elim (λ h. inr (digit-yes b l h, l)) (λ h. inl (digit-high b h)) (le? b 57)) (λ h. inl (digit-low b h)) (le? 48 b)
+
+no-word : (t : List ℕ) → Within t noWord
+no-word t = record { high = omega arith; sign = omega arith }
+
+digits-within : (f m x : ℕ) (t : List ℕ) (p : ℕ) → m ≤ 1 → p ≤ length t → Within t (digitsAt f m x t p)
+unfolding digitsAt
+digits-within zero m x t p s h = record { high = h; sign = s }
+digits-within (suc f) m x t p s h = go (digit? (byteAt t p)) (digits-within f m (x * 10 + (byteAt t p - 48)) t (p + 1) s)
+  where
+    go : (isDigit (byteAt t p) ≡ false) ⊎ ((isDigit (byteAt t p) ≡ true) × (48 ≤ byteAt t p))
+        → (p + 1 ≤ length t → Within t (digitsAt f m (x * 10 + (byteAt t p - 48)) t (p + 1))) → Within t (digitsAt (suc f) m x t p)
+    go (inl e) k = rw e (record { high = h; sign = s })
+    go (inr w) k = let r = k (omega (arith, byte-in t p (λ e. omega arith))) in rw (w .0) r
+
+number-within : (t : List ℕ) (p m : ℕ) → m ≤ 1 → Within t (numberAt t p m)
+unfolding numberAt
+number-within t p m s = go (digit? (byteAt t p))
+  where
+    zero-way : byteAt t p ≡ 48 → (m ≡ 1) ⊎ (m ≡ 1 → ⊥) → Within t (numberAt t p m)
+    zero-way e (inl z) = rw (eq-eqb (byteAt t p) 48 e, eq-eqb m 1 z) (no-word t)
+    zero-way e (inr d) =
+        rw (eq-eqb (byteAt t p) 48 e, ne-eqb m 1 d)
+        (record { high = omega (arith, byte-in t p (λ q. omega arith)); sign = omega arith })
+
+    some-way : isDigit (byteAt t p) ≡ true → 48 ≤ byteAt t p → (byteAt t p ≡ 48) ⊎ (byteAt t p ≡ 48 → ⊥) → Within t (numberAt t p m)
+    some-way e l (inl z) = zero-way z (eq? m 1)
+    some-way e l (inr d) =
+        rw (ne-eqb (byteAt t p) 48 d, e)
+        (digits-within 8 m (byteAt t p - 48) t (p + 1) s (omega (arith, byte-in t p (λ q. omega arith))))
+
+    go : (isDigit (byteAt t p) ≡ false) ⊎ ((isDigit (byteAt t p) ≡ true) × (48 ≤ byteAt t p)) → Within t (numberAt t p m)
+    go (inl e) = rw (number-none t p m e) (no-word t)
+    go (inr w) = some-way (w .0) (w .1) (eq? (byteAt t p) 48)
+
+-- a number that was read ends inside the text, and its minus is at most 1
+pub literal-within : (t : List ℕ) (p : ℕ) → Within t (literalAt t p)
+unfolding literalAt
+literal-within t p = go (eq? (byteAt t p) 45)
+  where
+    go : (byteAt t p ≡ 45) ⊎ (byteAt t p ≡ 45 → ⊥) → Within t (literalAt t p)
+    go (inl e) = rw (eq-eqb (byteAt t p) 45 e) (number-within t (p + 1) 1 (omega arith))
+    go (inr d) = rw (ne-eqb (byteAt t p) 45 d) (number-within t p 0 (omega arith))
+
+-- ---- one number of a line
+module _ (top keep : ℕ) (values : List ℕ) (x minus : ℕ) where
+  -- a variable above top
+  pub one-above : top < x → named true values ≡ namedOne top keep values x minus
+  unfolding namedOne refusedBy
+  one-above h = sym (rw (lt-ltb top x h))
+
+  -- a variable whose value is not kept
+  pub one-other : x ≤ top → keep < x → named false values ≡ namedOne top keep values x minus
+  unfolding namedOne refusedBy keptBy
+  one-other h l = sym (rw (le-ltb top x h, lt-leb x keep l))
+
+  -- a variable named twice
+  pub one-twice : x ≤ top → x ≤ keep → (getD values (x - 1) 0 ≡ 0 → ⊥) → named true values ≡ namedOne top keep values x minus
+  unfolding namedOne refusedBy
+  one-twice h l d = sym (rw (le-ltb top x h, le-leb x keep l, ne-eqb (getD values (x - 1) 0) 0 d))
+
+  -- a variable named for the first time
+  pub one-kept : x ≤ top → x ≤ keep → getD values (x - 1) 0 ≡ 0
+      → named false (set values (x - 1) (1 + minus)) ≡ namedOne top keep values x minus
+  unfolding namedOne refusedBy keptBy
+  one-kept h l e = sym (rw (le-ltb top x h, le-leb x keep l, eq-eqb (getD values (x - 1) 0) 0 e))
+
+  -- the mark of a number is whether it is refused
+  one-mark : (s : Named) → s ≡ namedOne top keep values x minus → s .refused ≡ refusedBy top keep values x
+  unfolding namedOne
+  one-mark s e = ap (λ (n : Named). n .refused) e ∙ mark (refusedBy top keep values x) values (keptBy keep values x minus)
+    where
+      mark : (r : Bool) (a b : List ℕ) → cond r (named true a) (named false b) .refused ≡ r
+      mark true a b = refl
+      mark false a b = refl
+
+-- ---- one turn over the numbers of a line
+module _ (f top keep : ℕ) (t : List ℕ) (p : ℕ) (values : List ℕ) (w : Word) (read : w ≡ literalAt t (p + 1)) where
+  abbrev rest : ℕ → Named
+  rest g = namedFrom g top keep t p values
+
+  one-more : 0 < f → rest (suc (f - 1)) ≡ rest f
+  one-more h = ap rest (let z : suc (f - 1) ≡ f = omega arith in z)
+
+  -- the 0 at the end
+  pub name-zero : 0 < f → w .value ≡ 0 → named false values ≡ namedFrom f top keep t p values
+  unfolding namedFrom
+  name-zero h e = sym (rw (← read, eq-eqb (w .value) 0 e)) ∙ one-more h
+
+  module _ (s : Named) (done : s ≡ namedOne top keep values (w .value) (w .minus)) (d : w .value ≡ 0 → ⊥) where
+    -- a number that is refused
+    pub name-refused : 0 < f → s .refused ≡ true → s ≡ namedFrom f top keep t p values
+    unfolding namedFrom namedOne
+    name-refused h e =
+        let r : refusedBy top keep values (w .value) ≡ true = sym (one-mark top keep values (w .value) (w .minus) s done) ∙ e in
+        let one : s ≡ named true values = rw r at done in
+        one ∙ sym (rw (← read, ne-eqb (w .value) 0 d, r)) ∙ one-more h
+
+    -- the last number, where a newline follows
+    pub name-last : 0 < f → s .refused ≡ false → (b : ℕ) → b ≡ byteAt t (w .next) → b ≡ 10
+        → named false (s .values) ≡ namedFrom f top keep t p values
+    unfolding namedFrom namedOne
+    name-last h e b g l =
+        let r : refusedBy top keep values (w .value) ≡ false = sym (one-mark top keep values (w .value) (w .minus) s done) ∙ e in
+        let one : s ≡ named false (keptBy keep values (w .value) (w .minus)) = rw r at done in
+        ap (λ (n : Named). named false (n .values)) one
+        ∙ sym (rw (← read, ne-eqb (w .value) 0 d, r, ← g, eq-eqb b 10 l)) ∙ one-more h
+
+    -- a number that others follow
+    pub name-more : 0 < f → s .refused ≡ false → (b : ℕ) → b ≡ byteAt t (w .next) → (b ≡ 10 → ⊥)
+        → namedFrom (f - 1) top keep t (w .next) (s .values) ≡ namedFrom f top keep t p values
+    unfolding namedFrom namedOne
+    name-more h e b g l =
+        let r : refusedBy top keep values (w .value) ≡ false = sym (one-mark top keep values (w .value) (w .minus) s done) ∙ e in
+        let one : s ≡ named false (keptBy keep values (w .value) (w .minus)) = rw r at done in
+        ap (λ (n : Named). namedFrom (f - 1) top keep t (w .next) (n .values)) one
+        ∙ sym (rw (← read, ne-eqb (w .value) 0 d, r, ← g, ne-eqb b 10 l)) ∙ one-more h
+
+-- no more numbers
+pub name-none : (f top keep : ℕ) (t : List ℕ) (p : ℕ) (values : List ℕ) → f ≡ 0 → named false values ≡ namedFrom f top keep t p values
+unfolding namedFrom
+name-none f top keep t p values e = rw e refl
+
+-- ---- all named
+-- a value that is missing
+pub complete-not : (keep : ℕ) (values : List ℕ) (i : ℕ) → i < keep → getD values i 0 ≡ 0 → false ≡ complete keep values
+unfolding complete
+complete-not keep values i l e =
+    sym (not-true-false (allFrom 0 keep (λ i. not (eqb (getD values i 0) 0))) (λ t.
+    neqb→ne (getD values i 0) 0 (all-out 0 keep (λ i. not (eqb (getD values i 0) 0)) (T-of _ t) i (omega arith) (omega arith)) e))
+
+-- none missing
+pub complete-all : (keep : ℕ) (values : List ℕ) → ((i : ℕ) → i < keep → getD values i 0 ≡ 0 → ⊥) → true ≡ complete keep values
+unfolding complete
+complete-all keep values h =
+    sym (T-eq (allFrom 0 keep (λ i. not (eqb (getD values i 0) 0)))
+    (all-in 0 keep (λ i. not (eqb (getD values i 0) 0)) (λ i l u. ne→neqb (getD values i 0) 0 (h i (omega arith)))))
+
+-- ---- the value of a variable
+module _ (values : List ℕ) (x : ℕ) where
+  -- number 0, which is no variable
+  pub assigned-zero : x ≡ 0 → eqb (getD values 0 0) 1 ≡ assigned values x
+  unfolding assigned
+  assigned-zero e = ap (λ (i : ℕ). eqb (getD values i 0) 1) (let z : 0 ≡ x - 1 = omega arith in z)
+
+  -- a variable past the end
+  pub assigned-past : length values < x → false ≡ assigned values x
+  unfolding assigned
+  assigned-past h = sym (ne-eqb (getD values (x - 1) 0) 1 (λ e. omega (arith, byte-past values (x - 1) (omega arith))))
+
+  -- any other
+  pub assigned-at : eqb (getD values (x - 1) 0) 1 ≡ assigned values x
+  unfolding assigned
+  assigned-at = refl
+
+-- ---- literals and clauses
+or-false : (b : Bool) → b ≡ (b || false)
+or-false true = refl
+or-false false = refl
+
+module _ (α : Assignment) where
+  -- a literal with a minus
+  pub holds-negative : (l : Literal) (b : Bool) → b ≡ α (l .variable) → l .negative ≡ true → not b ≡ literalHolds α l
+  holds-negative l b e h = sym (rw (h, ← e))
+
+  -- a literal without
+  pub holds-plain : (l : Literal) (b : Bool) → b ≡ α (l .variable) → l .negative ≡ false → b ≡ literalHolds α l
+  holds-plain l b e h = sym (rw (h, ← e))
+
+  -- a clause of one literal
+  pub holds-one : (x : Literal) (a : Bool) → a ≡ literalHolds α x → a ≡ clauseHolds α (x ∷ [])
+  holds-one x a e = e ∙ or-false (literalHolds α x)
+
+  -- the first literal holds
+  pub holds-first : (x : Literal) (c : Clause) (a : Bool) → a ≡ literalHolds α x → a ≡ true → true ≡ clauseHolds α (x ∷ c)
+  holds-first x c a e h = sym (ap (λ (b : Bool). b || clauseHolds α c) (sym e ∙ h))
+
+  -- or does not
+  pub holds-next : (x : Literal) (c : Clause) (a b : Bool) → a ≡ literalHolds α x → a ≡ false → b ≡ clauseHolds α c
+      → b ≡ clauseHolds α (x ∷ c)
+  holds-next x c a b e h g = g ∙ sym (ap (λ (b : Bool). b || clauseHolds α c) (sym e ∙ h))
+
+  -- a literal that holds, by index
+  holds-at : (c : Clause) (d : Literal) (i : ℕ) → i < length c → literalHolds α (getD c i d) ≡ true → clauseHolds α c ≡ true
+  holds-at [] d i l e = absurd (omega arith)
+  holds-at (x ∷ c) d zero l e = ap (λ (b : Bool). b || clauseHolds α c) e
+  holds-at (x ∷ c) d (suc i) l e =
+      T-eq (literalHolds α x || clauseHolds α c)
+      (or-r (literalHolds α x) (clauseHolds α c) (T-of (clauseHolds α c) (holds-at c d i (omega arith) e)))
+
+  -- none that holds
+  holds-none : (c : Clause) (d : Literal) → ((i : ℕ) → i < length c → literalHolds α (getD c i d) ≡ false) → clauseHolds α c ≡ false
+  holds-none [] d h = refl
+  holds-none (x ∷ c) d h = ap₂ _||_ (h 0 (omega arith)) (holds-none c d (λ i l. h (suc i) (omega arith)))
+
+  -- a variable of a run that is true
+  pub run-true : (first count i : ℕ) (b : Bool) → i < count → b ≡ α (first + i) → b ≡ true → true ≡ clauseHolds α (run first count)
+  run-true first count i b l e h =
+      sym (holds-at (run first count) (pos 0) i (omega (arith, run-length first count))
+      (ap (literalHolds α) (run-at first count i (pos 0) l) ∙ sym e ∙ h))
+
+  -- none that is
+  pub run-false : (first count : ℕ) → ((i : ℕ) → i < count → α (first + i) ≡ false) → false ≡ clauseHolds α (run first count)
+  run-false first count h =
+      sym (holds-none (run first count) (pos 0) (λ i l.
+      let k : i < count = omega (arith, run-length first count) in
+      ap (literalHolds α) (run-at first count i (pos 0) k) ∙ h i k))
+
+-- the variables of a run
+pub run-low : (first count i : ℕ) → Each (λ l. l .variable ≤ 10000) (run first count) → i < count → first + i ≤ 10000
+run-low first count i h l =
+    subst (λ (x : Literal). x .variable ≤ 10000) (run-at first count i (pos 0) l)
+    (each-out (λ l. l .variable ≤ 10000) (run first count) (pos 0) h i (omega (arith, run-length first count)))
+
+-- ---- the clauses of a request
+module _ (q : Request) (count : ℕ) (values : List ℕ) where
+  abbrev holdsAt : ℕ → Bool
+  holdsAt k = clauseHolds (assigned values) (clauseOf q k)
+
+  -- a clause that fails
+  pub holding-not : (k : ℕ) (x : Clause) (b : Bool) → k < count → x ≡ clauseOf q k → b ≡ clauseHolds (assigned values) x → b ≡ false
+      → false ≡ holding q count values
+  unfolding holding
+  holding-not k x b l g e h =
+      sym (not-true-false (allFrom 0 count holdsAt) (λ t.
+      subst T (sym (e ∙ ap (clauseHolds (assigned values)) g) ∙ h) (all-out 0 count holdsAt (T-of _ t) k (omega arith) (omega arith))))
+
+  -- a clause that holds
+  pub holding-one : (k : ℕ) (x : Clause) (b : Bool) → x ≡ clauseOf q k → b ≡ clauseHolds (assigned values) x → b ≡ true
+      → clauseHolds (assigned values) (clauseOf q k) ≡ true
+  holding-one k x b g e h = sym (e ∙ ap (clauseHolds (assigned values)) g) ∙ h
+
+  -- every clause holds
+  pub holding-all : ((k : ℕ) → k < count → clauseHolds (assigned values) (clauseOf q k) ≡ true) → true ≡ holding q count values
+  unfolding holding
+  holding-all h = sym (T-eq (allFrom 0 count holdsAt) (all-in 0 count holdsAt (λ k l u. T-of (holdsAt k) (h k (omega arith)))))
