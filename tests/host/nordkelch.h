@@ -1,4 +1,5 @@
-/* The C entries of the proved library for the clause file of a request.
+/* The C entries of the proved library for the clause file of a request, and
+ * for reading an answer to it.
  *
  * A request is handed over as numbers:
  *   n      inputs, 1 to 4
@@ -7,8 +8,12 @@
  *   m      the series bound M, 0 to 7
  *
  * Each entry answers 0 when the request is taken, else the number of the
- * refusal. The lowest number that applies is given:
+ * refusal. Of 2 to 6 the lowest number that applies is given:
  *   2 bad n, 3 bad table, 4 bad r, 5 bad M, 6 the buffer is too short.
+ * An answer's lines are read from the top, and the first fault counts:
+ *   9 a line's form, 10 a variable above V or an X or L variable named twice;
+ * then, at the end of the text:
+ *   11 something missing, 12 the values describe no network.
  *
  * Pointers may not be null. What they name may not overlap.
  */
@@ -37,6 +42,15 @@ uint32_t nk_file_size(uint8_t n, uint16_t table, uint8_t r, uint8_t m, uint64_t 
  */
 uint32_t nk_write_file(uint8_t n, uint16_t table, uint8_t r, uint8_t m, uint8_t *buffer,
                        size_t buffer_length, uint64_t *length);
+
+/* Tests the answer text[0 .. text_length): only the number of the
+ * refusal is handed back, not the network. The text may be empty.
+ *
+ * 0: the answer is taken.
+ * 2 to 5, 9 to 12: refused.
+ */
+uint32_t nk_test_answer(uint8_t n, uint16_t table, uint8_t r, uint8_t m, const uint8_t *text,
+                        size_t text_length);
 
 #ifdef __cplusplus
 }

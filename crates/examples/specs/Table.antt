@@ -2,10 +2,10 @@
 -- numbers; the rows are proved by a single computation. Assumes nothing.
 use mathlib.Core.Path.{_≡_, refl}
 use mathlib.Core.List.{List, [], _∷_, map}
-use Prim.Native.Nat.{ℕ}
-use lib.ListN.{length, replicate}
+use Prim.Native.Nat.{ℕ, _+_, _*_}
+use lib.ListN.{length, replicate, take}
 use Rattle.prelude.specs.Blocks.{each, flatten}
-use Rattle.prelude.specs.Lists.{firstOf}
+use Rattle.prelude.specs.Lists.{firstOf, equalLists}
 use Rattle.request.specs.declared.Request.{Request}
 use Rattle.request.specs.Numbers.{refusalOf}
 use Rattle.rows.specs.Rows.{onBelow, rowsOf, literalOn}
@@ -14,6 +14,12 @@ use Rattle.network.specs.declared.Network.{Network}
 use Rattle.network.specs.Check.{numberOf as checkNumber, valuesOf, checkedOf, rowsAnswer, firstWrong, fitting, literalsLow, labelsLowest, listed, near, nearer, touching, atSink, apart, part}
 use Rattle.clauses.specs.Formula.{pairNumber, X, P, L, W, S, transitivity, choice, choices, someStep, closedStep, firstStep, linkStep, lastStep, onRow, netSides, switchSides, offRow, rowVariables, rowClauses, rowsFrom, formula, formulaOf}
 use Rattle.clauses.specs.Count.{split, variablesBefore, variableCount}
+use Rattle.clauses.specs.Number.{clauseOf}
+use Rattle.numeral.specs.Number.{digitsAt, numberAt, literalAt as wordAt}
+use Rattle.answer.specs.Lines.{lineEnd, standsAt, formFrom, formAt}
+use Rattle.answer.specs.Values.{refusedBy, keptBy, namedOne, namedFrom, complete, assigned, holding}
+use Rattle.answer.specs.Decode.{lowest, literalFor, labelFor, decoded}
+use Rattle.answer.specs.Reading.{passed, valued, lineStep, linesFrom, ended, readingOf}
 use Rattle.text.specs.Decimal.{digits as numeral, decimal}
 use Rattle.text.specs.Text.{literalText, literalsText, lineText}
 use Rattle.dimacs.specs.File.{headText, bodyText, fileText}
@@ -72,6 +78,23 @@ firstFile =
 variablesAndClauses : Request → List ℕ
 variablesAndClauses q = variableCount q ∷ length (formulaOf q) ∷ []
 
+-- "1 01 1 1"
+oneSwitch : Request
+oneSwitch = record { n = 1; table = 2; r = 1; m = 1 }
+
+-- an answer to it
+oneAnswer : List ℕ
+oneAnswer =
+    -- s SATISFIABLE
+    115 ∷ 32 ∷ 83 ∷ 65 ∷ 84 ∷ 73 ∷ 83 ∷ 70 ∷ 73 ∷ 65 ∷ 66 ∷ 76 ∷ 69 ∷ 10
+    -- v 1 -2 -3 -4 -5 6 7 -8 0
+    ∷ 118 ∷ 32 ∷ 49 ∷ 32 ∷ 45 ∷ 50 ∷ 32 ∷ 45 ∷ 51 ∷ 32 ∷ 45 ∷ 52 ∷ 32 ∷ 45 ∷ 53 ∷ 32 ∷ 54 ∷ 32 ∷ 55 ∷ 32 ∷ 45 ∷ 56 ∷ 32 ∷ 48 ∷ 10
+    ∷ []
+
+-- the refusal of an answer, then the labels of the network
+answered : Request → List ℕ → List ℕ
+answered q t = readingOf q t .refusal ∷ take (2 * q .r + 2) (readingOf q t .network .labels)
+
 -- r = M = 7, n = 4, all on
 largest : Request
 largest = record { n = 4; table = 65535; r = 7; m = 7 }
@@ -81,9 +104,11 @@ rows =
     -- P1: the file, byte by byte
     record { computed = fileText firstRequest; stated = firstFile }
     -- P2: "1 01 1 1": V 15, C 38
-    ∷ record { computed = variablesAndClauses (record { n = 1; table = 2; r = 1; m = 1 }); stated = 15 ∷ 38 ∷ [] }
+    ∷ record { computed = variablesAndClauses oneSwitch; stated = 15 ∷ 38 ∷ [] }
     -- P3: V 1,856 and C 27,547; its T beside them
     ∷ record { computed = length (flatten (formulaOf largest)) ∷ variablesAndClauses largest; stated = 77088 ∷ 1856 ∷ 27547 ∷ [] }
+    -- P8: labels 0 0 2 2
+    ∷ record { computed = answered oneSwitch oneAnswer; stated = 0 ∷ 0 ∷ 0 ∷ 2 ∷ 2 ∷ [] }
     -- P9: "does"
     ∷ record { computed = exclusive 2; stated = 0 ∷ [] }
     -- P10: row 1
@@ -104,7 +129,8 @@ rows =
 
 -- each row's computed numbers are those stated
 pub holds : map (λ (x : Row). x .computed) rows ≡ map (λ (x : Row). x .stated) rows
-unfolding rows exclusive checked reading network requestOf lineForm numbersOf runEnd digits endedBy single isTable tableAt
+unfolding rows equalLists oneSwitch oneAnswer answered digitsAt numberAt wordAt lineEnd standsAt formFrom formAt refusedBy keptBy namedOne namedFrom complete assigned holding
+    lowest literalFor labelFor decoded passed valued lineStep linesFrom ended readingOf clauseOf exclusive checked reading network requestOf lineForm numbersOf runEnd digits endedBy single isTable tableAt
     firstRequest firstFile variablesAndClauses largest each flatten pairNumber X P L W S transitivity choice choices someStep closedStep firstStep
     linkStep lastStep onRow netSides switchSides offRow rowVariables rowClauses rowsFrom formula formulaOf split onBelow variablesBefore variableCount
     numeral decimal literalText literalsText lineText headText bodyText fileText refusalOf rowsOf literalOn checkedOf rowsAnswer firstWrong fitting literalsLow labelsLowest listed firstOf near nearer touching atSink apart part

@@ -5,6 +5,7 @@ use request::Request;
 ghost use mathlib.Core.Path.{_≡_};
 ghost use lib.ListN.{length};
 ghost use Rattle.dimacs.specs.File.{numberOf, sizeAnswer, writeAnswer, fileWritten};
+ghost use Rattle.answer.specs.Reading.{readingOf};
 ghost use Rattle.host.specs.Entries.{asked, bytesOr};
 
 // The size of a request's clause file.
@@ -43,4 +44,13 @@ pub extern "C" fn nk_write_file(
         }
         Answer::Refused(number) => number as u32,
     }
+}
+
+// Reads an answer, and says whether it is taken.
+#[no_mangle]
+pub extern "C" fn nk_test_answer(n: u8, table: u16, r: u8, m: u8, text: &[u8]) -> u32
+    ensures { λ x. ⌜ x ≡ readingOf (asked n table r m) (now (text .entry)) .refusal ⌝ }
+{
+    let read = answer::read::read_answer(Request { n, table, r, m }, text);
+    read.refusal as u32
 }

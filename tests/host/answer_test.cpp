@@ -1,0 +1,648 @@
+// Compares the proved library's reading of answers with that of the second
+// implementation.
+//
+//   c++ -std=c++17 -O2 -o answer_test answer_test.cpp LIBRARY.a
+//   answer_test                         runs all groups of checks
+//   answer_test --read FILE n table r m prints the library's number for a file
+//
+// One line is printed for each group that fails. The last line is
+// "N passed, M failed", in groups. The exit status is 0 only if M is 0.
+
+#include <algorithm>
+#include <cstdint>
+#include <cstdio>
+#include <cstdlib>
+#include <fstream>
+#include <iterator>
+#include <memory>
+#include <string>
+#include <utility>
+#include <vector>
+
+#include "../second/answers.hpp"
+#include "nordkelch.h"
+
+namespace {
+
+using second::Request;
+
+// ---------------------------------------------------------------------------
+// Pseudo-random numbers from a fixed seed (xorshift64*)
+// ---------------------------------------------------------------------------
+
+struct Random {
+    std::uint64_t state;
+    explicit Random(std::uint64_t seed) : state(seed * 2 + 0x9E3779B97F4A7C15u) {}
+    std::uint64_t next() {
+        state ^= state >> 12;
+        state ^= state << 25;
+        state ^= state >> 27;
+        return state * 0x2545F4914F6CDD1Du;
+    }
+    // A number from 0 to count - 1.
+    std::size_t below(std::size_t count) { return std::size_t((next() >> 16) % count); }
+};
+
+Random random_numbers(20240608);
+
+// ---------------------------------------------------------------------------
+// Groups of checks
+// ---------------------------------------------------------------------------
+
+unsigned groups_passed = 0;
+unsigned groups_failed = 0;
+unsigned long checks_made = 0;
+
+// One group. It keeps its first fault and counts the others.
+class Group {
+  public:
+    explicit Group(const std::string& name) : name_(name) {}
+
+    void check(bool good, const std::string& request, const std::string& what) {
+        checks_made++;
+        if (good) return;
+        if (faults_ == 0) first_ = request + ": " + what;
+        faults_++;
+    }
+
+    // Prints the line of a failed group.
+    void finish() {
+        if (faults_ == 0) {
+            groups_passed++;
+            return;
+        }
+        groups_failed++;
+        std::printf("FAILED %s: %s (%lu faults)\n", name_.c_str(), first_.c_str(), faults_);
+    }
+
+  private:
+    std::string name_;
+    std::string first_;
+    unsigned long faults_ = 0;
+};
+
+// Any request as numbers.
+std::string numbers_of(const Request& q) {
+    return "n=" + std::to_string(q.n) + " table=" + std::to_string(q.table) +
+           " r=" + std::to_string(q.r) + " M=" + std::to_string(q.m);
+}
+
+// A text that can be printed in one line.
+std::string shown(const std::string& text) {
+    std::string all = "\"";
+    for (char c : text) {
+        if (c == '\n') {
+            all += "\\n";
+        } else if (c < ' ' || c > '~') {
+            all += "\\" + std::to_string(int(std::uint8_t(c))) + ".";
+        } else {
+            all += c;
+        }
+    }
+    return all + "\"";
+}
+
+// ---------------------------------------------------------------------------
+// Calls of the library
+// ---------------------------------------------------------------------------
+
+// The text is handed over in an array of its own, of exactly its size.
+std::uint32_t call_answer(const Request& q, const std::string& text) {
+    const std::unique_ptr<std::uint8_t[]> bytes(new std::uint8_t[text.size()]);
+    std::copy(text.begin(), text.end(), bytes.get());
+    return nk_test_answer(std::uint8_t(q.n), std::uint16_t(q.table), std::uint8_t(q.r),
+                          std::uint8_t(q.m), bytes.get(), text.size());
+}
+
+// One text: the library and the second implementation give one number.
+// The answer is the second implementation's reading.
+second::Reading check_same(Group& group, const Request& q, const std::string& text) {
+    const second::Reading want = second::read_answer(q, text);
+    const std::uint32_t have = call_answer(q, text);
+    const bool same = have == std::uint32_t(want.refusal);
+    group.check(same, same ? "" : numbers_of(q) + " " + shown(text),
+                same ? "" : std::to_string(have) + ", second " + std::to_string(want.refusal));
+    return want;
+}
+
+// One text whose number is written out: both must give it.
+void check_number(Group& group, const Request& q, const std::string& text, int number) {
+    const second::Reading want = check_same(group, q, text);
+    group.check(want.refusal == number, numbers_of(q) + " " + shown(text),
+                "second: " + std::to_string(want.refusal) + ", not " + std::to_string(number));
+}
+
+// ---------------------------------------------------------------------------
+// Expected numbers that are written out
+// ---------------------------------------------------------------------------
+
+// The request "1 01 1 1": X is 1 to 6, L 7 and 8, S 9 to 12, W 13 and 14,
+// Z 15; V is 15.
+const Request p2 = {1, 2, 1, 1};
+const std::string s = "s SATISFIABLE\n";
+const std::string values = "1 -2 -3 -4 -5 6 7 -8";
+const std::string good = s + "v " + values + " 0\n";
+
+struct Row {
+    std::string text;
+    int number;
+};
+
+void group_of_rows(const std::string& name, const std::vector<Row>& rows) {
+    Group group(name);
+    for (const Row& row : rows) check_number(group, p2, row.text, row.number);
+    group.finish();
+}
+
+// "P8 for P2, "s SATISFIABLE", "v 1 -2 -3 -4 -5 6 7 -8 0": labels 0 0 2 2."
+void group_p8() {
+    Group group("P8");
+    const second::Reading reading = check_same(group, p2, good);
+    group.check(reading.refusal == 0, shown(good), "second: refused");
+    group.check(reading.labels == std::vector<unsigned>{0, 0, 2, 2}, shown(good), "second: labels");
+    group.check(reading.literals == std::vector<unsigned>{0}, shown(good), "second: literals");
+    group.finish();
+}
+
+void group_c_lines() {
+    group_of_rows("lines starting with c",
+                  {{"c\n" + good, 0},
+                   {"copy\n" + good, 0},
+                   {"c 1 x -0\n" + s + "c\r\nc\tv 999\nv " + values + " 0\n", 0},
+                   {std::string("c\0\xff\r\n", 5) + good, 0},
+                   {s + "v 1 -2 -3\nc 1 2 3\ncc\nv -4 -5 6 7 -8 0\n", 0},
+                   {good + "c\nc s SATISFIABLE\n", 0},
+                   {good + "cv 1\n", 0},
+                   {"c\n", 11},
+                   {"c", 9},
+                   {"c unfinished", 9},
+                   {good + "c", 9},
+                   {good + "c the end", 9},
+                   {" c\n" + good, 9},
+                   {"C\n" + good, 9},
+                   {good + " c\n", 9}});
+}
+
+void group_other_lines() {
+    group_of_rows("s lines and other lines",
+                  {{"", 11},
+                   {s, 11},
+                   {"\n", 9},
+                   {"\n" + good, 9},
+                   {s + "\nv " + values + " 0\n", 9},
+                   {good + "\n", 9},
+                   {s + good, 9},
+                   {s + "v 1\n" + s + "v 0\n", 9},
+                   {"v " + values + " 0\n" + s, 9},
+                   {"v 0\n", 9},
+                   {"v " + values + "\n" + s + "v 0\n", 9},
+                   {"s UNSATISFIABLE\n", 9},
+                   {"s SATISFIABL\nv 0\n", 9},
+                   {"s SATISFIABLE \nv 0\n", 9},
+                   {"s SATISFIABLE\r\nv 0\n", 9},
+                   {"s  SATISFIABLE\nv 0\n", 9},
+                   {"s satisfiable\nv 0\n", 9},
+                   {" s SATISFIABLE\nv 0\n", 9},
+                   {"s SATISFIABLE", 9},
+                   {"s", 9},
+                   {"SAT\n1 -2 0\n", 9},
+                   {"s\n", 9},
+                   {s + "x\n", 9},
+                   {s + values + " 0\n", 9},
+                   {good + "x\n", 9},
+                   {good + s, 9},
+                   {good + good, 9},
+                   {good + std::string(1, '\0') + "\n", 9}});
+}
+
+void group_v_lines() {
+    group_of_rows("form of a v line",
+                  {{s + "v " + values + "\nv 0\n", 0},
+                   {s + "v 1\nv -2\nv -3\nv -4\nv -5\nv 6\nv 7\nv -8\nv 0\n", 0},
+                   {s + "v 0\n", 11},
+                   {s + "v 1\nv 0\n", 11},
+                   {s + "v\n", 9},
+                   {s + "v \n", 9},
+                   {s + "v  \n", 9},
+                   {s + "v 1\nv\nv 0\n", 9},
+                   {s + "v1 0\n", 9},
+                   {s + "vv 1 0\n", 9},
+                   {s + "V 1 0\n", 9},
+                   {s + " v 1 0\n", 9},
+                   {s + "v", 9},
+                   {s + "v ", 9},
+                   {s + "v " + values + " 0", 9},
+                   {s + "v " + values, 9},
+                   {s + "v 999", 9},
+                   {s + "v 1 0 2\n", 9},
+                   {s + "v " + values + " 0 9\n", 9},
+                   {s + "v 0 0\n", 9},
+                   {s + "v " + values + " 0 0\n", 9},
+                   {good + "v 0\n", 9},
+                   {good + "v 9\n", 9},
+                   {s + "v " + values + " 0 \n", 9},
+                   {s + "v " + values + " 0\r\n", 9},
+                   {s + "v " + values + "\r\nv 0\n", 9},
+                   {s + "v " + values + " \nv 0\n", 9},
+                   {s + "v  " + values + " 0\n", 9},
+                   {s + "v 1  -2 -3 -4 -5 6 7 -8 0\n", 9},
+                   {s + "v 1\t-2 -3 -4 -5 6 7 -8 0\n", 9},
+                   {s + "v\t" + values + " 0\n", 9},
+                   {s + "v 999 x\n", 9},
+                   {s + "v 1 1 x\n", 9},
+                   {s + "v 999 0 0\n", 9},
+                   {s + "v 999\nx\n", 10},
+                   {s + "v 1 1\nx\n", 10},
+                   {s + "v 999\nv", 10},
+                   {s + "x\nv 999\n", 9}});
+}
+
+void group_numbers() {
+    group_of_rows("form of a number",
+                  {{s + "v 0000000001 0\n", 9},
+                   {s + "v 1000000000 0\n", 9},
+                   {s + "v -1000000000 0\n", 9},
+                   {s + "v 4294967297 0\n", 9},
+                   {s + "v 18446744073709551617 0\n", 9},
+                   {s + "v " + std::string(1000, '9') + " 0\n", 9},
+                   {s + "v 999999999 0\n", 10},
+                   {s + "v -999999999 0\n", 10},
+                   {s + "v 100000000 0\n", 10},
+                   {s + "v " + values + " -0\n", 9},
+                   {s + "v " + values + " +0\n", 9},
+                   {s + "v " + values + " 00\n", 9},
+                   {s + "v +1 -2 -3 -4 -5 6 7 -8 0\n", 9},
+                   {s + "v 01 -2 -3 -4 -5 6 7 -8 0\n", 9},
+                   {s + "v 1 -02 -3 -4 -5 6 7 -8 0\n", 9},
+                   {s + "v 1 --2 -3 -4 -5 6 7 -8 0\n", 9},
+                   {s + "v 1 - 2 -3 -4 -5 6 7 -8 0\n", 9},
+                   {s + "v 1 2- -3 -4 -5 6 7 -8 0\n", 9},
+                   {s + "v -\n", 9},
+                   {s + "v 1 -\n", 9},
+                   {s + "v 1-2 0\n", 9},
+                   {s + "v 0x1 0\n", 9},
+                   {s + "v 1.0 0\n", 9},
+                   {s + "v 1/ 0\n", 9},
+                   {s + "v 1: 0\n", 9},
+                   {s + std::string("v 1\0 0\n", 7), 9}});
+}
+
+void group_variables() {
+    group_of_rows("variables",
+                  {{s + "v " + values + " 15 0\n", 0},
+                   {s + "v " + values + " -15 0\n", 0},
+                   {s + "v " + values + " 16 0\n", 10},
+                   {s + "v " + values + " -16 0\n", 10},
+                   {s + "v 16 " + values + " 0\n", 10},
+                   {s + "v 1 1 -2 -3 -4 -5 6 7 -8 0\n", 10},
+                   {s + "v 1 -1 -2 -3 -4 -5 6 7 -8 0\n", 10},
+                   {s + "v " + values + " 1 0\n", 10},
+                   {s + "v " + values + "\nv -1 0\n", 10},
+                   {s + "v " + values + "\nc\nv -2 0\n", 10},
+                   {s + "v " + values + " 7 0\n", 10},
+                   {s + "v " + values + " -7 0\n", 10},
+                   {s + "v " + values + " -8 0\n", 10},
+                   {s + "v " + values + " 8 0\n", 10},
+                   {s + "v " + values + " 9 9 -9 0\n", 0},
+                   {s + "v 13 -13 13 " + values + " -14 14 0\n", 0},
+                   {s + "v -15 15\nv " + values + "\nv 15 -15 12 -12 0\n", 0},
+                   {s + "v 9 10 11 -12 13 14 -15 " + values + " 0\n", 0},
+                   {s + "v 8 -7 6 5 4 3 2 1 0\n", 0},
+                   {s + "v -8 7 6 -5 -4 -3 -2 1 0\n", 0}});
+}
+
+void group_missing() {
+    std::vector<Row> rows = {{s + "v " + values + "\n", 11},
+                             {s + "v " + values + "\nc\n", 11},
+                             {s + "v 1 0\n", 11},
+                             {s + "v 9 10 11 12 13 14 15 0\n", 11},
+                             // 11 comes before 12.
+                             {s + "v 1 2 -3 -4 -5 6 7 -8\n", 11},
+                             {s + "v 1 2 -4 -5 6 7 8 0\n", 11}};
+    const std::string words[] = {"1", "-2", "-3", "-4", "-5", "6", "7", "-8"};
+    for (std::size_t left = 0; left < 8; left++) {
+        std::string line = "v";
+        for (std::size_t i = 0; i < 8; i++) {
+            if (i != left) line += " " + words[i];
+        }
+        rows.push_back({s + line + " 0\n", 11});
+    }
+    group_of_rows("something missing", rows);
+}
+
+void group_no_network() {
+    group_of_rows("values that describe no network",
+                  {// X(0,1) and X(0,2) without X(1,2), and the other two ways.
+                   {s + "v 1 2 -3 -4 -5 -6 7 -8 0\n", 12},
+                   {s + "v 1 -2 -3 4 -5 -6 7 -8 0\n", 12},
+                   {s + "v -1 2 -3 4 -5 -6 7 -8 0\n", 12},
+                   {s + "v -1 -2 -3 4 5 -6 7 -8 0\n", 12},
+                   {s + "v 1 2 3 4 5 -6 7 -8 0\n", 12},
+                   // No literal, and two.
+                   {s + "v 1 -2 -3 -4 -5 6 -7 -8 0\n", 12},
+                   {s + "v 1 -2 -3 -4 -5 6 7 8 0\n", 12},
+                   // Group 3 isn't looked at.
+                   {s + "v -1 -2 -3 -4 -5 -6 -7 8 0\n", 0},
+                   {s + "v 1 2 3 4 5 6 7 -8 9 -12 -13 -14 -15 0\n", 0}});
+}
+
+// ---------------------------------------------------------------------------
+// Requests
+// ---------------------------------------------------------------------------
+
+void group_refused_requests() {
+    Group group("refused requests, by hand");
+    for (const std::string& text : {good, std::string(), std::string("x"), s + "v 999 0\n"}) {
+        check_number(group, {0, 2, 1, 1}, text, 2);
+        check_number(group, {5, 2, 1, 1}, text, 2);
+        check_number(group, {255, 0xFFFF, 255, 255}, text, 2);
+        check_number(group, {1, 4, 1, 1}, text, 3);
+        check_number(group, {2, 16, 8, 8}, text, 3);
+        check_number(group, {3, 256, 1, 1}, text, 3);
+        check_number(group, {1, 2, 8, 1}, text, 4);
+        check_number(group, {4, 0xFFFF, 255, 255}, text, 4);
+        check_number(group, {1, 2, 1, 8}, text, 5);
+        check_number(group, {4, 0xFFFF, 7, 255}, text, 5);
+    }
+    group.finish();
+}
+
+// A table for n inputs.
+unsigned any_table(unsigned n) {
+    return unsigned(random_numbers.below(std::size_t(1) << (1u << n)));
+}
+
+// Requests of which at least one field is outside its bounds.
+void group_random_requests() {
+    Group group("refused requests, random");
+    unsigned long seen[6] = {0, 0, 0, 0, 0, 0};
+    for (unsigned round = 0; round < 20000; round++) {
+        Request q = {unsigned(1 + random_numbers.below(4)), 0, unsigned(random_numbers.below(8)),
+                     unsigned(random_numbers.below(8))};
+        q.table = any_table(q.n);
+        if (random_numbers.below(4) == 0) q.n = unsigned(random_numbers.below(256));
+        if (random_numbers.below(3) == 0) q.table = unsigned(random_numbers.below(65536));
+        if (random_numbers.below(2) == 0) q.r = unsigned(8 + random_numbers.below(248));
+        if (random_numbers.below(2) == 0) q.m = unsigned(8 + random_numbers.below(248));
+        if (second::refusal(q) == 0) continue;
+        const second::Reading reading = check_same(group, q, round % 2 == 0 ? good : "x\n");
+        if (reading.refusal >= 2 && reading.refusal <= 5) seen[reading.refusal]++;
+    }
+    for (int number = 2; number <= 5; number++) {
+        group.check(seen[number] >= 100, "refusal " + std::to_string(number), "fewer than 100");
+    }
+    group.finish();
+}
+
+// ---------------------------------------------------------------------------
+// Answers made from networks
+// ---------------------------------------------------------------------------
+
+struct Made {
+    std::vector<unsigned> literals;
+    std::vector<unsigned> labels;
+    std::string text;
+};
+
+void shuffle(std::vector<int>& all) {
+    for (std::size_t i = all.size(); i > 1; i--) {
+        std::swap(all[i - 1], all[random_numbers.below(i)]);
+    }
+}
+
+// A random network: each terminal goes to one of a random number of nets.
+void make_network(const Request& q, Made& made) {
+    for (unsigned k = 0; k < q.r; k++) {
+        made.literals.push_back(unsigned(random_numbers.below(2 * q.n)));
+    }
+    const unsigned N = 2 * q.r + 2;
+    const std::size_t nets = 1 + random_numbers.below(N);
+    std::vector<unsigned> net, lowest(nets, N);
+    for (unsigned i = 0; i < N; i++) {
+        net.push_back(unsigned(random_numbers.below(nets)));
+        if (lowest[net[i]] == N) lowest[net[i]] = i;
+        made.labels.push_back(lowest[net[i]]);
+    }
+}
+
+// The X and L values of the network, and random values for a part of the
+// other variables, some of them twice.
+std::vector<int> make_values(const Request& q, const Made& made, std::size_t part) {
+    std::vector<int> all;
+    const int N = int(2 * q.r + 2);
+    for (int i = 0; i < N; i++) {
+        for (int j = i + 1; j < N; j++) {
+            const bool one_net = made.labels[std::size_t(i)] == made.labels[std::size_t(j)];
+            all.push_back(one_net ? second::X(q, i, j) : -second::X(q, i, j));
+        }
+    }
+    for (int k = 0; k < int(q.r); k++) {
+        for (int v = 0; v < int(2 * q.n); v++) {
+            const bool chosen = made.literals[std::size_t(k)] == unsigned(v);
+            all.push_back(chosen ? second::L(q, k, v) : -second::L(q, k, v));
+        }
+    }
+    unsigned V = 0, C = 0, T = 0;
+    second::counts(q, V, C, T);
+    for (int x = int(all.size()) + 1; x <= int(V); x++) {
+        if (random_numbers.below(100) >= part) continue;
+        all.push_back(random_numbers.below(2) == 0 ? x : -x);
+        if (random_numbers.below(20) == 0) all.push_back(random_numbers.below(2) == 0 ? x : -x);
+    }
+    return all;
+}
+
+std::string make_c_line() {
+    const char* lines[] = {"c\n",   "c made\n",         "c v 1 0\n",
+                           "c\r\n", "cs SATISFIABLE\n", "c  -0 +1 x\n"};
+    return lines[random_numbers.below(6)];
+}
+
+// An answer in a random order, over several v lines, with c lines between.
+// Of the variables that aren't X or L, `part` in 100 are named.
+Made make_answer(const Request& q, std::size_t part) {
+    Made made;
+    make_network(q, made);
+    std::vector<int> all = make_values(q, made, part);
+    shuffle(all);
+    const std::size_t length = 1 + random_numbers.below(all.size() < 40 ? 12 : 40);
+    if (random_numbers.below(3) == 0) made.text += make_c_line();
+    made.text += s;
+    std::size_t place = 0;
+    bool ended = false;
+    while (!ended) {
+        if (random_numbers.below(6) == 0) made.text += make_c_line();
+        made.text += "v";
+        const std::size_t stop = std::min(all.size(), place + 1 + random_numbers.below(length));
+        const bool alone = place == all.size();
+        for (; place < stop; place++) made.text += " " + std::to_string(all[place]);
+        // The 0 stands behind the last number or on a line of its own.
+        ended = alone || (place == all.size() && random_numbers.below(2) == 0);
+        made.text += ended ? " 0\n" : "\n";
+    }
+    if (random_numbers.below(3) == 0) made.text += make_c_line();
+    return made;
+}
+
+// One group for each n and r.
+void groups_of_networks() {
+    for (unsigned n = 1; n <= 4; n++) {
+        for (unsigned r = 0; r <= 7; r++) {
+            Group group("answers from networks, n=" + std::to_string(n) +
+                        " r=" + std::to_string(r));
+            for (unsigned m : {0u, 1u, 2u, 4u, 7u}) {
+                for (unsigned round = 0; round < 4; round++) {
+                    const Request q = {n, any_table(n), r, m};
+                    const Made made = make_answer(q, round * 30);
+                    const second::Reading reading = check_same(group, q, made.text);
+                    group.check(reading.refusal == 0, numbers_of(q), "second: refused");
+                    group.check(reading.literals == made.literals, numbers_of(q),
+                                "second: literals");
+                    group.check(reading.labels == made.labels, numbers_of(q), "second: labels");
+                }
+            }
+            group.finish();
+        }
+    }
+}
+
+// ---------------------------------------------------------------------------
+// Damaged answers
+// ---------------------------------------------------------------------------
+
+char any_byte() {
+    const std::string set = "sv c0123456789-\n\r\t+";
+    return set[random_numbers.below(set.size())];
+}
+
+// The lines of a text, each with its newline.
+std::vector<std::string> split(const std::string& text) {
+    std::vector<std::string> all;
+    for (const second::Line& line : second::lines_of(text)) {
+        all.push_back(line.text + (line.finished ? "\n" : ""));
+    }
+    return all;
+}
+
+void damage_lines(std::string& text, std::size_t kind) {
+    std::vector<std::string> lines = split(text);
+    const std::size_t a = random_numbers.below(lines.size());
+    const std::size_t b = random_numbers.below(lines.size());
+    if (kind == 0) lines.erase(lines.begin() + std::ptrdiff_t(a));
+    if (kind == 1) lines.insert(lines.begin() + std::ptrdiff_t(b), std::string(lines[a]));
+    if (kind == 2) std::swap(lines[a], lines[b]);
+    text.clear();
+    for (const std::string& line : lines) text += line;
+}
+
+// Turns the sign of one of the numbers, if the place hits a space before one.
+void flip_sign(std::string& text) {
+    std::size_t place = text.find(' ', random_numbers.below(text.size()));
+    if (place == std::string::npos || place + 1 >= text.size()) return;
+    place = place + 1;
+    if (text[place] == '-') {
+        text.erase(place, 1);
+    } else if (text[place] >= '1' && text[place] <= '9') {
+        text.insert(place, "-");
+    }
+}
+
+void damage(std::string& text) {
+    if (text.empty()) {
+        text += any_byte();
+        return;
+    }
+    const std::size_t a = random_numbers.below(text.size());
+    const std::size_t b = random_numbers.below(text.size());
+    switch (random_numbers.below(10)) {
+        case 0: text[a] = any_byte(); break;
+        case 1: text.erase(a, 1); break;
+        case 2: text.insert(a, 1, any_byte()); break;
+        case 3: std::swap(text[a], text[b]); break;
+        case 4: damage_lines(text, 0); break;
+        case 5: damage_lines(text, 1); break;
+        case 6: damage_lines(text, 2); break;
+        case 7: text.resize(a); break;
+        default: flip_sign(text); break;
+    }
+}
+
+// Each refusal that a text can have must come up often enough.
+void group_damaged() {
+    Group group("damaged answers");
+    unsigned long seen[13] = {0};
+    unsigned long made_in_all = 0;
+    for (unsigned round = 0; round < 3000; round++) {
+        const unsigned n = unsigned(1 + random_numbers.below(4));
+        const std::size_t most = round % 50 == 0 ? 8 : 4;
+        const Request q = {n, any_table(n), unsigned(random_numbers.below(most)),
+                           unsigned(random_numbers.below(8))};
+        const Made made = make_answer(q, random_numbers.below(3) * 10);
+        for (unsigned copy = 0; copy < 40; copy++) {
+            std::string text = made.text;
+            const std::size_t damages = 1 + random_numbers.below(3);
+            for (std::size_t k = 0; k < damages; k++) damage(text);
+            const second::Reading reading = check_same(group, q, text);
+            if (reading.refusal >= 0 && reading.refusal <= 12) seen[reading.refusal]++;
+            made_in_all++;
+        }
+    }
+    group.check(made_in_all >= 100000, "damaged answers", "fewer than 100000");
+    std::printf("%lu damaged answers:", made_in_all);
+    for (int number : {0, 9, 10, 11, 12}) {
+        group.check(seen[number] >= 100, "refusal " + std::to_string(number), "fewer than 100");
+        std::printf(" %lu with %d%s", seen[number], number, number == 12 ? "\n" : ",");
+    }
+    group.finish();
+}
+
+// ---------------------------------------------------------------------------
+// One file
+// ---------------------------------------------------------------------------
+
+// Prints the library's number for the text of a file, and nothing else.
+int read_file(char** words) {
+    std::ifstream in(words[2], std::ios::binary);
+    if (!in) {
+        std::fprintf(stderr, "answer_test: %s cannot be read\n", words[2]);
+        return 2;
+    }
+    const std::string text((std::istreambuf_iterator<char>(in)), std::istreambuf_iterator<char>());
+    Request q = {unsigned(std::atoi(words[3])), 0, unsigned(std::atoi(words[5])),
+                 unsigned(std::atoi(words[6]))};
+    const std::string table = words[4];
+    for (std::size_t row = 0; row < table.size() && row < 16; row++) {
+        if (table[row] == '1') q.table |= 1u << row;
+    }
+    std::printf("%lu\n", static_cast<unsigned long>(call_answer(q, text)));
+    return 0;
+}
+
+void run_all() {
+    group_p8();
+    group_c_lines();
+    group_other_lines();
+    group_v_lines();
+    group_numbers();
+    group_variables();
+    group_missing();
+    group_no_network();
+    group_refused_requests();
+    group_random_requests();
+    groups_of_networks();
+    group_damaged();
+}
+
+}  // namespace
+
+int main(int count, char** words) {
+    if (count == 7 && std::string(words[1]) == "--read") return read_file(words);
+    if (count != 1) {
+        std::fprintf(stderr, "usage: answer_test [--read FILE n table r m]\n");
+        return 2;
+    }
+    run_all();
+    std::printf("%lu checks\n", checks_made);
+    std::printf("%u passed, %u failed\n", groups_passed, groups_failed);
+    return groups_failed == 0 ? 0 : 1;
+}
