@@ -45,7 +45,7 @@ pub fn literal_length(l: Literal) -> usize
 }
 
 // Writes a literal and the space after it.
-pub fn put_literal(buffer: &mut [u8], at: usize, l: Literal) -> usize
+fn put_literal(buffer: &mut [u8], at: usize, l: Literal) -> usize
     requires { ⌜ at + length (literalText l) ≤ length (now buffer) ⌝ }
     ensures { λ k. ⌜ (k ≡ at + length (literalText l)) × (now (buffer .exit) ≡ written (now (buffer .entry)) at (literalText l)) ⌝ }
 {
