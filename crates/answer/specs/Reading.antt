@@ -18,6 +18,7 @@ use Rattle.answer.specs.declared.values.Named.{Named}
 use Rattle.answer.specs.declared.read.Line.{Line}
 use Rattle.answer.specs.declared.read.Lines.{Lines}
 pub mod Laws
+pub mod Meaning
 
 -- what a line gives: the refusal, 0 if none; the phase, 0 before the s line, 1 after it, 2 after the 0; the values; the next line
 abbrev pub line : ℕ → ℕ → List ℕ → ℕ → Line

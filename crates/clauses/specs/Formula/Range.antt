@@ -81,7 +81,7 @@ module _ (n r m top : ℕ) (small : r ≤ 7) (base : P r + 2 * n * r ≤ top) wh
   chosen s v h k = let e = chosen-in n r s v h k in (e .0, omega arith)
 
   -- group 1
-  transitivity-in : Each (ClauseIn top) (transitivity r)
+  pub transitivity-in : Each (ClauseIn top) (transitivity r)
   unfolding transitivity
   transitivity-in =
       each-blocks _ (terminals r) _ (λ i a. each-blocks _ _ _ (λ j b. each-blocks _ _ _ (λ k d.
@@ -94,7 +94,7 @@ module _ (n r m top : ℕ) (small : r ≤ 7) (base : P r + 2 * n * r ≤ top) wh
       ((ij, (jk, (ik, tt))), ((ij, (ik, (jk, tt))), ((ik, (jk, (ij, tt))), tt))))))
 
   -- group 2
-  choices-in : Each (ClauseIn top) (choices n r)
+  pub choices-in : Each (ClauseIn top) (choices n r)
   unfolding choices choice
   choices-in =
       each-blocks _ r _ (λ s a. (

@@ -1,0 +1,2 @@
+-- An assignment written as an answer, and read back to its network (document 01, "Reading an answer"). Assumes nothing.
+pub mod Solution
