@@ -105,12 +105,12 @@ module _ (q : Request) (α : Assignment) (nets : Sat α (transitivity (q .r))) (
   label-is = decoded-label (q .n) (q .r) α
 
   -- X is the test that two are the same
-  same-test : (i j : ℕ) → i < 2 * q .r + 2 → j < 2 * q .r + 2 → (i ≡ j → ⊥)
+  pub same-test : (i j : ℕ) → i < 2 * q .r + 2 → j < 2 * q .r + 2 → (i ≡ j → ⊥)
       → α (X (q .r) i j) ≡ eqb (labelOf q made i) (labelOf q made j)
   same-test i j h l d = label-joined (q .r) α nets i j h l d ∙ rw (label-is i h, label-is j l)
 
   -- L that a literal is v
-  literal-test : (s v : ℕ) → s < q .r → v < 2 * q .n → α (L (q .n) (q .r) s v) ≡ eqb (literalOf q made s) v
+  pub literal-test : (s v : ℕ) → s < q .r → v < 2 * q .n → α (L (q .n) (q .r) s v) ≡ eqb (literalOf q made s) v
   literal-test s v h l = literal-is (q .n) (q .r) α picks s v h l ∙ rw (decoded-literal (q .n) (q .r) α s h)
 
   -- each part by the laws of decoding

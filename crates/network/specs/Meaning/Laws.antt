@@ -51,13 +51,13 @@ move-cases true p q x y e = go (T-cases (eqb x q)) (T-cases (eqb y q))
 
 module _ (r : ℕ) (shut : ℕ → Bool) (label : ℕ → ℕ) where
   -- terminals of one net are in one part
-  part-label : (s i j : ℕ) → label i ≡ label j → part shut label s i ≡ part shut label s j
+  pub part-label : (s i j : ℕ) → label i ≡ label j → part shut label s i ≡ part shut label s j
   unfolding part
   part-label zero i j p = p
   part-label (suc s) i j p = ap (move (shut s) (part shut label s (2 * s + 1)) (part shut label s (2 * s + 2))) (part-label s i j p)
 
   -- the ends of a closed switch are in one part
-  part-switch : (s k : ℕ) → k < s → T (shut k) → part shut label s (2 * k + 1) ≡ part shut label s (2 * k + 2)
+  pub part-switch : (s k : ℕ) → k < s → T (shut k) → part shut label s (2 * k + 1) ≡ part shut label s (2 * k + 2)
   unfolding part
   part-switch zero k h t = absurd (omega arith)
   part-switch (suc s) k h t =
@@ -98,7 +98,7 @@ module _ (r : ℕ) (shut : ℕ → Bool) (label : ℕ → ℕ) where
   )
 
   -- terminals in one part are joined by a walk
-  part-walk : (s i j : ℕ) → s ≤ r → part shut label s i ≡ part shut label s j → (es : List ℕ) × Walk r shut label i es j
+  pub part-walk : (s i j : ℕ) → s ≤ r → part shut label s i ≡ part shut label s j → (es : List ℕ) × Walk r shut label i es j
   unfolding part
   part-walk zero i j h e = ([], e)
   part-walk (suc s) i j h e =
