@@ -1,5 +1,5 @@
-/* The C entries of the proved library for the clause file of a request, and
- * for reading an answer to it.
+/* The C entries of the proved library for the clause file of a request, for
+ * reading an answer to it, and for checking a refutation of it.
  *
  * A request is handed over as numbers:
  *   n      inputs, 1 to 4
@@ -14,6 +14,14 @@
  *   9 a line's form, 10 a variable above V or an X or L variable named twice;
  * then, at the end of the text:
  *   11 something missing, 12 the values describe no network.
+ * A refutation has, after 2 to 5 and in this order:
+ *   7 the literals are too short, 8 the pairs, 14 the values, 15 the text is
+ *   above 16,777,215 bytes;
+ * then its lines are checked from the top, and the first fault counts:
+ *   16 a line's form, 17 an id that isn't the next, 18 a literal outside +-V
+ *   or a variable twice, 22 no place for the pair, 19 a clause that doesn't
+ *   stand, 20 a hint that sets nothing, 21 no conflict;
+ * and 23 when the text ends before the empty clause.
  *
  * Pointers may not be null. What they name may not overlap.
  */
@@ -51,6 +59,27 @@ uint32_t nk_write_file(uint8_t n, uint16_t table, uint8_t r, uint8_t m, uint8_t 
  */
 uint32_t nk_test_answer(uint8_t n, uint16_t table, uint8_t r, uint8_t m, const uint8_t *text,
                         size_t text_length);
+
+/* Checks the refutation text[0 .. text_len), which may be empty. With V
+ * variables, C clauses and T literals in the file, the lent slices are:
+ *   literals  at least T entries, the literals of all clauses
+ *   pairs     at least 2C entries, offset and length of each clause in them
+ *   added     any number of entries, two for each added clause: offset and
+ *             length, in bytes of the text, of its literals; the length of a
+ *             deleted one is 0
+ *   values    at least V+1 bytes
+ * What they hold before the call does not matter.
+ *
+ * 0: the text refutes the request ("none"). 16 to 23: refused. In both cases
+ *    the first T literals and 2C pairs are filled, *count is the number of
+ *    added clauses, the first 2 * *count entries of added are theirs, the
+ *    first V+1 values are 0, and all other entries stand.
+ * 2 to 5, 7, 8, 14, 15: refused; the slices stand, *count is 0.
+ */
+uint32_t nk_check_refutation(uint8_t n, uint16_t table, uint8_t r, uint8_t m, const uint8_t *text,
+                            size_t text_len, int32_t *literals, size_t literals_len,
+                            uint32_t *pairs, size_t pairs_len, uint32_t *added, size_t added_len,
+                            uint8_t *values, size_t values_len, uint32_t *count);
 
 #ifdef __cplusplus
 }

@@ -3,6 +3,7 @@
 use mathlib.Core.Path.{_≡_, refl}
 use mathlib.Core.List.{List, [], _∷_, map}
 use Prim.Native.Nat.{ℕ, _+_, _*_}
+use lib.IntN as Z
 use lib.ListN.{length, replicate, take}
 use Rattle.prelude.specs.Blocks.{each, flatten}
 use Rattle.prelude.specs.Lists.{firstOf, equalLists}
@@ -13,13 +14,20 @@ use Rattle.request.specs.Line.{numberOf, requestOf, lineForm, numbersOf, runEnd
 use Rattle.network.specs.declared.Network.{Network}
 use Rattle.network.specs.Check.{numberOf as checkNumber, valuesOf, checkedOf, rowsAnswer, firstWrong, fitting, literalsLow, labelsLowest, listed, near, nearer, touching, atSink, apart, part}
 use Rattle.clauses.specs.Formula.{pairNumber, X, P, L, W, S, transitivity, choice, choices, someStep, closedStep, firstStep, linkStep, lastStep, onRow, netSides, switchSides, offRow, rowVariables, rowClauses, rowsFrom, formula, formulaOf}
-use Rattle.clauses.specs.Count.{split, variablesBefore, variableCount}
+use Rattle.clauses.specs.Count.{split, variablesBefore, variableCount, clausesBefore, clauseCount, literalsBefore, literalCount}
+use Rattle.clauses.specs.Formula.OnRow.{onRowCount, onRowLiterals}
+use Rattle.clauses.specs.Pairs.{pairsBefore, triplesBefore}
 use Rattle.clauses.specs.Number.{clauseOf}
 use Rattle.numeral.specs.Number.{digitsAt, numberAt, literalAt as wordAt}
 use Rattle.answer.specs.Lines.{lineEnd, standsAt, formFrom, formAt}
 use Rattle.answer.specs.Values.{refusedBy, keptBy, namedOne, namedFrom, complete, assigned, holding}
 use Rattle.answer.specs.Decode.{lowest, literalFor, labelFor, decoded}
 use Rattle.answer.specs.Reading.{passed, valued, lineStep, linesFrom, ended, readingOf}
+use Rattle.lrat.specs.Words.{wordsFrom, wordsAt, literalsAt, idsAt, runFrom, runAt, deletionAt, hintsAfter, additionAt, lineAfter, lineAt}
+use Rattle.lrat.specs.State.{standsIn, clauseAt, hintsOf, without, deleteAll}
+use Rattle.lrat.specs.Check.{concluded, addStep, deleteStep, stepOf, lineStep as checkStep, linesFrom as checkFrom, linesOf}
+use Rattle.store.specs.Store.{storeRefusal}
+use Rattle.refutation.specs.Refutation.{Lent, lent, outcomeNumber, refusalBefore, outcomeOf, linesFor, checkAnswer}
 use Rattle.text.specs.Decimal.{digits as numeral, decimal}
 use Rattle.text.specs.Text.{literalText, literalsText, lineText}
 use Rattle.dimacs.specs.File.{headText, bodyText, fileText}
@@ -95,6 +103,18 @@ oneAnswer =
 answered : Request → List ℕ → List ℕ
 answered q t = readingOf q t .refusal ∷ take (2 * q .r + 2) (readingOf q t .network .labels)
 
+-- "1 01 0 1": no switch, and the table of the input itself
+noSwitch : Request
+noSwitch = record { n = 1; table = 2; r = 0; m = 1 }
+
+-- slices that are long enough for it
+slices : Lent
+slices = lent (replicate 20 (Z.pos 0)) (replicate 20 0) (replicate 4 0) (replicate 10 0)
+
+-- the number of checking a refutation of it, and the number of added pairs
+refuted : List ℕ → List ℕ
+refuted t = outcomeNumber (checkAnswer noSwitch t slices .outcome) ∷ checkAnswer noSwitch t slices .count ∷ []
+
 -- r = M = 7, n = 4, all on
 largest : Request
 largest = record { n = 4; table = 65535; r = 7; m = 7 }
@@ -107,6 +127,14 @@ rows =
     ∷ record { computed = variablesAndClauses oneSwitch; stated = 15 ∷ 38 ∷ [] }
     -- P3: V 1,856 and C 27,547; its T beside them
     ∷ record { computed = length (flatten (formulaOf largest)) ∷ variablesAndClauses largest; stated = 77088 ∷ 1856 ∷ 27547 ∷ [] }
+    -- P4: "7 0 5 6 1 2 4 0": none
+    ∷ record { computed = refuted (55 ∷ 32 ∷ 48 ∷ 32 ∷ 53 ∷ 32 ∷ 54 ∷ 32 ∷ 49 ∷ 32 ∷ 50 ∷ 32 ∷ 52 ∷ 32 ∷ 48 ∷ 10 ∷ []); stated = 0 ∷ 0 ∷ [] }
+    -- P5: hints 5 6 1 2: 21
+    ∷ record { computed = refuted (55 ∷ 32 ∷ 48 ∷ 32 ∷ 53 ∷ 32 ∷ 54 ∷ 32 ∷ 49 ∷ 32 ∷ 50 ∷ 32 ∷ 48 ∷ 10 ∷ []); stated = 21 ∷ 0 ∷ [] }
+    -- P6: hints 5 6 3: 20
+    ∷ record { computed = refuted (55 ∷ 32 ∷ 48 ∷ 32 ∷ 53 ∷ 32 ∷ 54 ∷ 32 ∷ 51 ∷ 32 ∷ 48 ∷ 10 ∷ []); stated = 20 ∷ 0 ∷ [] }
+    -- P7: id 8: 17
+    ∷ record { computed = refuted (56 ∷ 32 ∷ 48 ∷ 32 ∷ 53 ∷ 32 ∷ 54 ∷ 32 ∷ 49 ∷ 32 ∷ 50 ∷ 32 ∷ 52 ∷ 32 ∷ 48 ∷ 10 ∷ []); stated = 17 ∷ 0 ∷ [] }
     -- P8: labels 0 0 2 2
     ∷ record { computed = answered oneSwitch oneAnswer; stated = 0 ∷ 0 ∷ 0 ∷ 2 ∷ 2 ∷ [] }
     -- P9: "does"
@@ -129,7 +157,10 @@ rows =
 
 -- each row's computed numbers are those stated
 pub holds : map (λ (x : Row). x .computed) rows ≡ map (λ (x : Row). x .stated) rows
-unfolding rows equalLists oneSwitch oneAnswer answered digitsAt numberAt wordAt lineEnd standsAt formFrom formAt refusedBy keptBy namedOne namedFrom complete assigned holding
+unfolding rows noSwitch slices refuted wordsFrom wordsAt literalsAt idsAt runFrom runAt deletionAt hintsAfter additionAt lineAfter lineAt standsIn clauseAt hintsOf without deleteAll
+    concluded addStep deleteStep stepOf checkStep checkFrom linesOf storeRefusal refusalBefore outcomeOf linesFor checkAnswer clauseCount literalCount clausesBefore literalsBefore
+    onRowCount onRowLiterals pairsBefore triplesBefore
+    equalLists oneSwitch oneAnswer answered digitsAt numberAt wordAt lineEnd standsAt formFrom formAt refusedBy keptBy namedOne namedFrom complete assigned holding
     lowest literalFor labelFor decoded passed valued lineStep linesFrom ended readingOf clauseOf exclusive checked reading network requestOf lineForm numbersOf runEnd digits endedBy single isTable tableAt
     firstRequest firstFile variablesAndClauses largest each flatten pairNumber X P L W S transitivity choice choices someStep closedStep firstStep
     linkStep lastStep onRow netSides switchSides offRow rowVariables rowClauses rowsFrom formula formulaOf split onBelow variablesBefore variableCount

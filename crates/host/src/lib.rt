@@ -1,11 +1,15 @@
 // The entries that a host in C or C++ calls: numbers and slices in, a number out, 0 for "taken". A slice passes as a pointer and a
 // length. On a refusal the number behind an out-parameter stands.
 use dimacs::Answer;
+use refutation::Outcome;
 use request::Request;
 ghost use mathlib.Core.Path.{_≡_};
 ghost use lib.ListN.{length};
 ghost use Rattle.dimacs.specs.File.{numberOf, sizeAnswer, writeAnswer, fileWritten};
 ghost use Rattle.answer.specs.Reading.{readingOf};
+ghost use Rattle.cnf.specs.Cnf.{Satisfiable};
+ghost use Rattle.clauses.specs.Formula.{formulaOf};
+ghost use Rattle.refutation.specs.Refutation.{lent, outcomeNumber, checkAnswer, checkLeaves};
 ghost use Rattle.host.specs.Entries.{asked, bytesOr};
 
 // The size of a request's clause file.
@@ -53,4 +57,40 @@ pub extern "C" fn nk_test_answer(n: u8, table: u16, r: u8, m: u8, text: &[u8]) -
 {
     let read = answer::read::read_answer(Request { n, table, r, m }, text);
     read.refusal as u32
+}
+
+// Checks a refutation of a request's clauses over four lent slices: 0 for "none", else the refusal; the number of added pairs goes
+// behind count.
+#[no_mangle]
+pub extern "C" fn nk_check_refutation(
+    n: u8,
+    table: u16,
+    r: u8,
+    m: u8,
+    text: &[u8],
+    literals: &mut [i32],
+    pairs: &mut [u32],
+    added: &mut [u32],
+    values: &mut [u8],
+    count: &mut u32,
+) -> u32
+    ensures number { λ x. ⌜ x ≡ outcomeNumber (checkAnswer (asked n table r m) (now (text .entry)) (lent (now (literals .entry)) (now (pairs .entry)) (now (added .entry)) (now (values .entry))) .outcome) ⌝ }
+    ensures count { λ _. ⌜ now (count .exit) ≡ checkAnswer (asked n table r m) (now (text .entry)) (lent (now (literals .entry)) (now (pairs .entry)) (now (added .entry)) (now (values .entry))) .count ⌝ }
+    ensures slices { λ _. ⌜ lent (now (literals .exit)) (now (pairs .exit)) (now (added .exit)) (now (values .exit)) ≡ checkLeaves (asked n table r m) (now (text .entry)) (lent (now (literals .entry)) (now (pairs .entry)) (now (added .entry)) (now (values .entry))) ⌝ }
+    ensures sound { λ x. ⌜ (x ≡ 0 → Satisfiable (formulaOf (asked n table r m)) → ⊥) ⌝ }
+{
+    let checked = refutation::check(
+        Request { n, table, r, m },
+        text,
+        literals,
+        pairs,
+        added,
+        values,
+    );
+    *count = checked.count;
+    let outcome = checked.outcome;
+    match outcome {
+        Outcome::None => 0,
+        Outcome::Refused(number) => number as u32,
+    }
 }

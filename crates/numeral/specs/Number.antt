@@ -8,6 +8,7 @@ use lib.ListN.{getD}
 use mathlib.Core.Bool.{cond}
 use Rattle.numeral.specs.declared.Word.{Word}
 pub mod Laws
+pub mod Places
 
 -- the byte at p; 0, which has no part in any form, past the end
 abbrev pub byteAt : List ℕ → ℕ → ℕ

@@ -1,0 +1,65 @@
+-- The form first, then the ids. Assumes nothing.
+use mathlib.Core.Path.{_≡_, sym, _∙_}
+use native.Mathlib.Omega.{arith}
+use borrow.Author.Needs.{needs}
+use Rattle.cnf.specs.Cnf.{Formula}
+use Rattle.numeral.specs.Number.{byteAt}
+use Rattle.numeral.specs.Number.Places.{byte-in}
+use Rattle.lrat.specs.Bytes.{held}
+use Rattle.lrat.specs.State.Laws.{held-length}
+use Rattle.lrat.specs.Check.Laws.{delete-formless, delete-open, delete-done, deletion-inside}
+use Rattle.refutation.proofs.deletion.Statement.{statement}
+use Rattle.refutation.proofs.deletion.Tie as tie
+
+-- the function's entry, and the store's formula there
+abbrev entry : tie.After-ids-end → tie.Start
+entry c = c .before .before .before .before
+
+abbrev formula : tie.Start → Formula
+formula s = held (s .args .c) (s .args .literals .now) (s .args .pairs .now)
+
+ids-end-requires : tie.Need-ids-end-requires
+ids-end-requires c κs = search needs
+
+returns : tie.Need-returns
+returns c = let q = c .before in delete-formless _ _ _ _ _ _ _ (q .ids-end .ensures) (c .if1 .taken)
+
+byte-requires : tie.Need-byte-requires
+byte-requires c κs = search needs
+
+returns-2 : tie.Need-returns-2
+returns-2 c = let e = c .before .before in let q = e .before in
+    delete-open _ _ _ _ _ _ _ (q .ids-end .ensures) (e .if1 .left) (λ z. c .if2 .taken (c .before .byte .ensures ∙ z))
+
+-- the newline that was found
+closed : (c : tie.Else2) → byteAt (entry (c .before .before .before) .args .text .now) (c .before .before .before .ids-end .result) ≡ 10
+closed c = sym (c .before .byte .ensures) ∙ c .if2 .left
+
+delete-requires : tie.Need-delete-requires
+delete-requires c κs = let b = c .before in let e = b .before .before in let q = e .before in let s = entry q in
+    let i = deletion-inside (formula s) _ (s .args .top) (s .args .a) (s .args .added .now) _ _ (q .ids-end .ensures) (e .if1 .left) in
+    (omega (arith, i .0, i .1), s .pre)
+
+add-t15 : tie.Need-add-t15
+add-t15 c = let b = c .before .before .before .before in let q = b .before .before .before in let s = entry q in
+    let i = byte-in (s .args .text .now) (q .ids-end .result) (λ z. omega (arith, closed b)) in omega (arith, i, s .good)
+
+same-length : tie.Need-same-length
+same-length c = search needs
+
+returns-3 : tie.Need-returns-3
+returns-3 c = let d = c .before .before in let b = d .before .before in let e = b .before .before in let q = e .before in let s = entry q in
+    delete-done _ _ _ _ _ _ _ (q .ids-end .ensures) (e .if1 .left) (closed b) _ _ _ (sym (held-length (s .args .c) (s .args .literals .now) (s .args .pairs .now))) (d .delete .ensures)
+
+pub deletion-spec : {M : Type 1} → statement M
+deletion-spec =
+    tie.close
+    (tie.spec
+    ids-end-requires
+    returns
+    byte-requires
+    returns-2
+    delete-requires
+    add-t15
+    same-length
+    returns-3)

@@ -1,0 +1,134 @@
+-- The invariant: Going, all lines end as those that are left do; and every byte is below the stamp. Assumes nothing.
+use mathlib.Core.Path.{_≡_, sym, ap, _∙_, subst}
+use Prim.Native.Nat.{_+_, _-_, _≤_}
+use native.Mathlib.Omega.{arith}
+use lib.ListN.{length}
+use borrow.Author.Needs.{needs}
+use Rattle.lrat.specs.Bytes.{Old, zeros, held}
+use Rattle.lrat.specs.Bytes.Laws.{small-old, zeros-old, zeros-length}
+use Rattle.lrat.specs.Check.Laws.{Going, going-start, lines-end, lines-stop, lines-few, lines-more, lines-went}
+use Rattle.refutation.proofs.lines.Statement.{statement}
+use Rattle.refutation.proofs.lines.Tie as tie
+
+abbrev Inv-loop : tie.InvT-loop
+Inv-loop text literals pairs c top added₀ values₀ at₀ a₀ stamp₀ added values at a stamp =
+    Going (held c literals pairs) text top added₀ a added at × (length values ≡ top + 1) × Old stamp values × (stamp ≤ 253)
+
+abbrev μ-loop : tie.MeasureT-loop
+μ-loop text literals pairs c top added₀ values₀ at₀ a₀ stamp₀ added values at a stamp = length text - at
+
+-- the function's entry
+abbrev start : tie.At-loop Inv-loop μ-loop → tie.Start Inv-loop μ-loop
+start c = c .before .before .before .before .before .before .before .before .before
+
+-- a line, and the turn that it is of
+abbrev turn : tie.After-line Inv-loop μ-loop → tie.In-loop Inv-loop μ-loop
+turn c = c .before .before .before
+
+abbrev lined : tie.After-struct-known Inv-loop μ-loop → tie.After-line Inv-loop μ-loop
+lined c = c .before .before .before .before .before
+
+-- the values keep their number
+long : (c : tie.After-line Inv-loop μ-loop) → length (c .line .last .1 .1 .1 .1 .1 .1 .1 .1 .0) ≡ start (turn c .before) .args .top + 1
+long c = c .line .kept .1 .1 .1 .1 .1 .1 .1 .1 .0 ∙ turn c .before .loop .inv .1
+
+clear-requires : tie.Need-clear-requires Inv-loop μ-loop
+clear-requires c κs = search needs
+
+loop-holds : tie.Need-loop-holds Inv-loop μ-loop
+loop-holds c = let k = c .before .before in let s = k .before .before .before .before .before .before in
+    let e = k .clear .ensures in
+    (going-start _ _ _ _, ap length e ∙ zeros-length (length (s .args .values .now)) ∙ s .pre .0 .0, subst (Old 1) (sym e) (zeros-old (length (s .args .values .now))), omega arith)
+
+line-requires : tie.Need-line-requires Inv-loop μ-loop
+line-requires c κs = let i = c .before .before in let l = i .before in let s = start l in
+    ((l .loop .inv .1, (s .pre .0 .1 .0, (s .pre .0 .1 .1, l .loop .inv .3))), (s .pre .1, (l .loop .inv .0 .fit, l .loop .inv .2)))
+
+clear-requires-2 : tie.Need-clear-requires-2 Inv-loop μ-loop
+clear-requires-2 c κs = search needs
+
+same-length : tie.Need-same-length Inv-loop μ-loop
+same-length c = let d = lined (c .before .before .before .before .before) in
+    d .line .kept .1 .1 .1 .1 .1 .1 .1 .0 ∙ turn d .before .loop .inv .0 .long
+
+same-length-2 : tie.Need-same-length-2 Inv-loop μ-loop
+same-length-2 c = search needs
+
+returns : tie.Need-returns Inv-loop μ-loop
+returns c = let k = c .before .before in let t = k .before .before in let d = lined (t .before) in let i = turn d in
+    (lines-stop (i .before .loop .inv .0) (i .loop-test .taken) _ (d .line .ensures .0) (t .if1 .taken), (k .clear2 .ensures ∙ ap zeros (long d), omega (arith, lines-few (i .before .loop .inv .0) (i .loop-test .taken) _ (d .line .ensures .0), i .loop-test .taken)))
+
+clear-requires-3 : tie.Need-clear-requires-3 Inv-loop μ-loop
+clear-requires-3 c κs = search needs
+
+loop-less : tie.Need-loop-less Inv-loop μ-loop
+loop-less c = let k = c .before .before in let e = k .before .before .before in let d = lined (e .before) in let i = turn d in
+    let z : d .line .result .code ≡ 0 = search needs in
+    let w = lines-went (i .before .loop .inv .0) (i .loop-test .taken) _ (d .line .ensures .0) z in
+    omega (arith, w .low, w .high)
+
+loop-again : tie.Need-loop-again Inv-loop μ-loop
+loop-again c = let k = c .before .before in let e = k .before .before .before in let d = lined (e .before) in let i = turn d in
+    let z : d .line .result .code ≡ 0 = search needs in
+    let v = k .clear3 .ensures in
+    let n = long d in (
+      lines-more (i .before .loop .inv .0) (i .loop-test .taken) _ (d .line .ensures .0) z (d .line .kept .1 .1 .1 .1 .1 .1 .1 .0),
+      ap length v ∙ zeros-length _ ∙ n,
+      subst (Old 1) (sym v) (zeros-old _),
+      omega arith,
+    )
+
+add-stamp : tie.Need-add-stamp Inv-loop μ-loop
+add-stamp c = search needs
+
+loop-less-2 : tie.Need-loop-less-2 Inv-loop μ-loop
+loop-less-2 c = let e = c .before in let d = lined (e .before) in let i = turn d in
+    let z : d .line .result .code ≡ 0 = search needs in
+    let w = lines-went (i .before .loop .inv .0) (i .loop-test .taken) _ (d .line .ensures .0) z in
+    omega (arith, w .low, w .high)
+
+loop-again-2 : tie.Need-loop-again-2 Inv-loop μ-loop
+loop-again-2 c = let e = c .before in let d = lined (e .before) in let i = turn d in
+    let z : d .line .result .code ≡ 0 = search needs in (
+      lines-more (i .before .loop .inv .0) (i .loop-test .taken) _ (d .line .ensures .0) z (d .line .kept .1 .1 .1 .1 .1 .1 .1 .0),
+      long d,
+      small-old _ _ (d .line .ensures .1),
+      omega (arith, c .if2 .left),
+    )
+
+clear-requires-4 : tie.Need-clear-requires-4 Inv-loop μ-loop
+clear-requires-4 c κs = search needs
+
+same-length-3 : tie.Need-same-length-3 Inv-loop μ-loop
+same-length-3 c = let l = c .before .before .before .before in l .before .loop .inv .0 .long
+
+same-length-4 : tie.Need-same-length-4 Inv-loop μ-loop
+same-length-4 c = search needs
+
+returns-2 : tie.Need-returns-2 Inv-loop μ-loop
+returns-2 c = let k = c .before .before in let l = k .before .before in
+    (lines-end (l .before .loop .inv .0) (l .loop-test .left), (k .clear4 .ensures ∙ ap zeros (l .before .loop .inv .1), omega (arith, l .before .loop .inv .0 .few, l .before .loop .inv .0 .inside)))
+
+pub lines-spec : {M : Type 1} → statement M
+lines-spec =
+    tie.close
+    (tie.spec
+    Inv-loop
+    μ-loop
+    clear-requires
+    loop-holds
+    line-requires
+    clear-requires-2
+    same-length
+    same-length-2
+    returns
+    clear-requires-3
+    loop-less
+    loop-again
+    add-stamp
+    loop-less-2
+    loop-again-2
+    clear-requires-4
+    same-length-3
+    same-length-4
+    returns-2)

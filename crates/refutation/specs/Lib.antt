@@ -1,0 +1,3 @@
+-- Checking a refutation (document 01, "Checking a refutation"). Assumes nothing.
+pub mod Refutation
+pub mod Part

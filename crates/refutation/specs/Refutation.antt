@@ -1,0 +1,70 @@
+-- What checking a refutation answers, and what it leaves in the slices that it was lent. Assumes nothing.
+use mathlib.Core.Bool.{cond}
+use mathlib.Core.List.{List, _++_}
+use Prim.Native.Nat.{ℕ, _+_}
+use lib.Dec.{eqb, leb, ltb}
+use lib.IntN.{ℤ}
+use lib.ListN.{length, drop}
+use Rattle.prelude.specs.Blocks.{flatten, pairsFrom}
+use Rattle.prelude.specs.Written.{written}
+use Rattle.request.specs.declared.Request.{Request}
+use Rattle.clauses.specs.Formula.{formulaOf}
+use Rattle.clauses.specs.Count.{variableCount}
+use Rattle.store.specs.Store.{signs, storeRefusal}
+use Rattle.lrat.specs.Bytes.{zeros}
+use Rattle.lrat.specs.Check.{Left, linesOf}
+use Rattle.refutation.specs.declared.Checked.{Checked}
+use Rattle.refutation.specs.declared.Outcome.{Outcome}
+use Rattle.refutation.specs.declared.Outcome.the-variants.{None, Refused}
+pub mod Seam
+pub mod Laws
+pub mod Sound
+
+-- the slices that a check is lent: literals and pairs of the store, pairs of added clauses, values
+pub record Lent : Type 0 where
+  pub literals : List ℤ
+  pub pairs : List ℕ
+  pub added : List ℕ
+  pub values : List ℕ
+
+abbrev pub lent : List ℤ → List ℕ → List ℕ → List ℕ → Lent
+lent literals pairs added values = record { literals = literals; pairs = pairs; added = added; values = values }
+
+-- document 01's number of an outcome, 0 for "none"
+abbrev pub outcomeNumber : Outcome → ℕ
+outcomeNumber None = 0
+outcomeNumber (Refused x) = x
+
+-- "7, 8; 14 if the byte slice of values is shorter than V+1; 15 for text above 16,777,215 bytes", after 2 to 5; 0 if none of these
+unfoldable pub refusalBefore : Request → ℕ → Lent → ℕ
+refusalBefore q size s =
+    cond (eqb (storeRefusal q (length (s .literals)) (length (s .pairs))) 0)
+    (cond (leb (length (s .values)) (variableCount q)) 14 (cond (ltb 16777215 size) 15 0))
+    (storeRefusal q (length (s .literals)) (length (s .pairs)))
+
+-- the outcome of lines that end in a code: 1 is "none"
+unfoldable pub outcomeOf : ℕ → Outcome
+outcomeOf code = cond (eqb code 1) None (Refused code)
+
+-- the lines of a text, over a request's formula
+unfoldable pub linesFor : Request → List ℕ → List ℕ → Left
+linesFor q text added = linesOf (formulaOf q) text (variableCount q) added
+
+-- the answer: "The result carries the number a of added pairs too, 0 for a refusal up to 15"
+unfoldable pub checkAnswer : Request → List ℕ → Lent → Checked
+checkAnswer q text s =
+    cond (eqb (refusalBefore q (length text) s) 0)
+    (record { outcome = outcomeOf (linesFor q text (s .added) .code); count = linesFor q text (s .added) .a })
+    (record { outcome = Refused (refusalBefore q (length text) s); count = 0 })
+
+-- the slices afterwards: "A refusal of 1 to 15 writes nothing. For 16 to 23 the store is filled, added pairs are those of accepted
+-- lines, deletions made are kept. After every check that got past 15 the first V+1 values are 0. All other entries stand"
+unfoldable pub checkLeaves : Request → List ℕ → Lent → Lent
+checkLeaves q text s =
+    cond (eqb (refusalBefore q (length text) s) 0)
+    (lent
+    (written (s .literals) 0 (signs (flatten (formulaOf q))))
+    (written (s .pairs) 0 (pairsFrom 0 (formulaOf q)))
+    (linesFor q text (s .added) .added)
+    (zeros (variableCount q + 1) ++ drop (variableCount q + 1) (s .values)))
+    s
