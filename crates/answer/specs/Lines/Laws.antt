@@ -2,19 +2,20 @@
 use mathlib.Core.Path.{_≡_, refl, sym, ap, _∙_}
 use mathlib.Core.List.{List, [], _∷_}
 use mathlib.Core.Bool.{true, false, not}
-use mathlib.Core.Logic.{_⊎_, inl, inr, ⊎-elim}
-use Prim.Native.Nat.{ℕ, zero, suc, _+_, _-_, _*_, _≤_, _<_}
+use mathlib.Core.Logic.{_⊎_, inl, inr}
+use Prim.Native.Nat.{ℕ, zero, suc, _+_, _-_, _≤_, _<_}
 use native.Mathlib.Omega.{arith}
 use lib.Dec.{T, eqb}
 use lib.ListN.{length, getD, take, drop, length-take, length-drop, drop-of-length-le}
 use lib.Seq.{ext-getD, getD-take, getD-drop}
 use borrow.Author.Tests.{eq-eqb, ne-eqb}
-use Rattle.prelude.specs.Tests.{eq?, le?, eq→eqb, ne→neqb}
+use Rattle.prelude.specs.Tests.{eq?, eq→eqb, ne→neqb}
 use Rattle.prelude.specs.Lists.{equalLists}
 use Rattle.prelude.specs.Lists.Laws.{true-equal, false-equal, first-is, first-none, first-within}
 use Rattle.numeral.specs.declared.Word.{Word}
-use Rattle.numeral.specs.Number.{byteAt, isDigit, noWord, digitsAt, numberAt, literalAt}
-use Rattle.numeral.specs.Number.Laws.{byte-past, digit-yes, digit-low, digit-high, number-none, number-zero, number-minus, number-some, literal-minus, literal-plain}
+use Rattle.numeral.specs.Number.{byteAt, literalAt}
+use Rattle.numeral.specs.Number.Places.{Ends, literal-there}
+use Rattle.numeral.specs.Number.Laws.{byte-past}
 use Rattle.answer.specs.Lines.{lineEnd, standsAt, formed, noForm, formFrom, formAt}
 
 -- ---- the end of a line
@@ -68,74 +69,6 @@ stands-equal t w p h f =
     let n : length (take (length w) (drop p t)) ≡ length w = simp (length-take, length-drop) (omega arith) in
     sym (true-equal _ _ (ext-getD 0 _ _ n (λ i l.
     let j : i < length w = omega arith in getD-take (length w) (drop p t) i 0 j ∙ getD-drop p t i 0 ∙ f i j)))
-
--- ---- a number that is there ends inside the text
-pub record Ends (t : List ℕ) (p : ℕ) (w : Word) : Type 0 where
-  pub low : p < w .next
-  pub high : w .next ≤ length t
-
--- a byte other than 0 stands inside the text
-pub byte-in : (t : List ℕ) (p : ℕ) → (byteAt t p ≡ 0 → ⊥) → p < length t
-byte-in t p d = ⊎-elim (λ (h : length t ≤ p). absurd (d (byte-past t p h))) (λ (h : p < length t). h) (le? (length t) p)
-
--- a byte is a digit or not
-digit? : (b : ℕ) → (isDigit b ≡ false) ⊎ ((isDigit b ≡ true) × (48 ≤ b) × (b ≤ 57))
-digit? b =
-    ⊎-elim
-    (λ (l : 48 ≤ b). ⊎-elim (λ (h : b ≤ 57). inr (digit-yes b l h, l, h)) (λ (h : 57 < b). inl (digit-high b h)) (le? b 57))
-    (λ (h : b < 48). inl (digit-low b h))
-    (le? 48 b)
-
--- digits end inside the text
-digits-ends : (f m x : ℕ) (t : List ℕ) (p : ℕ) → p ≤ length t → (p ≤ digitsAt f m x t p .next) × (digitsAt f m x t p .next ≤ length t)
-unfolding digitsAt
-digits-ends zero m x t p h = (omega arith, h)
-digits-ends (suc f) m x t p h = go (digit? (byteAt t p)) (digits-ends f m (x * 10 + (byteAt t p - 48)) t (p + 1))
-  where
-    go : (isDigit (byteAt t p) ≡ false) ⊎ ((isDigit (byteAt t p) ≡ true) × (48 ≤ byteAt t p) × (byteAt t p ≤ 57))
-        → (p + 1 ≤ length t → (p + 1 ≤ digitsAt f m (x * 10 + (byteAt t p - 48)) t (p + 1) .next)
-        × (digitsAt f m (x * 10 + (byteAt t p - 48)) t (p + 1) .next ≤ length t))
-        → (p ≤ digitsAt (suc f) m x t p .next) × (digitsAt (suc f) m x t p .next ≤ length t)
-    go (inl e) k = rw e (omega arith, h)
-    go (inr w) k = let r = k (omega (arith, byte-in t p (λ e. omega arith))) in rw (w .0) (omega (arith, r .0), r .1)
-
--- no number stands at p, or one that ends inside the text
-number-ways : (t : List ℕ) (p m : ℕ) → (numberAt t p m ≡ noWord) ⊎ Ends t p (numberAt t p m)
-number-ways t p m = go (digit? (byteAt t p))
-  where
-    zero-way : byteAt t p ≡ 48 → (m ≡ 1) ⊎ (m ≡ 1 → ⊥) → (numberAt t p m ≡ noWord) ⊎ Ends t p (numberAt t p m)
-    zero-way e (inl z) = inl (number-minus t p m e z)
-    zero-way e (inr d) =
-        inr (rw (number-zero t p m e d) (record { low = omega arith; high = omega (arith, byte-in t p (λ q. omega arith)) }))
-
-    some-way : 48 ≤ byteAt t p → byteAt t p ≤ 57 → (byteAt t p ≡ 48) ⊎ (byteAt t p ≡ 48 → ⊥)
-        → (numberAt t p m ≡ noWord) ⊎ Ends t p (numberAt t p m)
-    some-way l h (inl z) = zero-way z (eq? m 1)
-    some-way l h (inr d) =
-        let r = digits-ends 8 m (byteAt t p - 48) t (p + 1) (omega (arith, byte-in t p (λ q. omega arith))) in
-        inr (rw (number-some t p m d l h) (record { low = omega (arith, r .0); high = r .1 }))
-
-    go : (isDigit (byteAt t p) ≡ false) ⊎ ((isDigit (byteAt t p) ≡ true) × (48 ≤ byteAt t p) × (byteAt t p ≤ 57))
-        → (numberAt t p m ≡ noWord) ⊎ Ends t p (numberAt t p m)
-    go (inl e) = inl (number-none t p m e)
-    go (inr w) = some-way (w .1) (w .2) (eq? (byteAt t p) 48)
-
--- the same of a number with a minus or none
-literal-ways : (t : List ℕ) (p : ℕ) → (literalAt t p ≡ noWord) ⊎ Ends t p (literalAt t p)
-literal-ways t p = go (eq? (byteAt t p) 45)
-  where
-    past : (numberAt t (p + 1) 1 ≡ noWord) ⊎ Ends t (p + 1) (numberAt t (p + 1) 1) → (numberAt t (p + 1) 1 ≡ noWord) ⊎ Ends t p (numberAt t (p + 1) 1)
-    past (inl e) = inl e
-    past (inr r) = inr (record { low = omega (arith, r .low); high = r .high })
-
-    go : (byteAt t p ≡ 45) ⊎ (byteAt t p ≡ 45 → ⊥) → (literalAt t p ≡ noWord) ⊎ Ends t p (literalAt t p)
-    go (inl e) = rw (literal-minus t p e) (past (number-ways t (p + 1) 1))
-    go (inr d) = rw (literal-plain t p d) (number-ways t p 0)
-
--- a number that was read ends past its start and inside the text
-pub literal-there : (t : List ℕ) (p : ℕ) → (literalAt t p .next ≡ 0 → ⊥) → Ends t p (literalAt t p)
-literal-there t p d =
-    ⊎-elim (λ (e : literalAt t p ≡ noWord). absurd (d (ap (λ (w : Word). w .next) e))) (λ (r : Ends t p (literalAt t p)). r) (literal-ways t p)
 
 -- ---- the form of a v line, one number at a time
 -- past the end no line has the form

@@ -3,13 +3,12 @@
 use mathlib.Core.Path.{_≡_, refl, sym, ap, ap₂, _∙_, subst}
 use mathlib.Core.List.{List, [], _∷_}
 use mathlib.Core.Bool.{Bool, true, false, not, _||_, cond}
-use mathlib.Core.Logic.{_⊎_, inl, inr, ⊎-elim}
-use Prim.Native.Nat.{ℕ, zero, suc, _+_, _-_, _*_, _≤_, _<_}
+use Prim.Native.Nat.{ℕ, zero, suc, _+_, _-_, _≤_, _<_}
 use native.Mathlib.Omega.{arith}
 use lib.Dec.{T, eqb}
 use lib.ListN.{length, getD, set}
 use borrow.Author.Tests.{le-leb, lt-leb, eq-eqb, ne-eqb, lt-ltb, le-ltb}
-use Rattle.prelude.specs.Tests.{T-eq, T-of, not-true-false, or-r, eq?, le?, neqb→ne, ne→neqb}
+use Rattle.prelude.specs.Tests.{T-eq, T-of, not-true-false, or-r, neqb→ne, ne→neqb}
 use Rattle.prelude.specs.Lists.{allFrom, Each}
 use Rattle.prelude.specs.Lists.Laws.{all-in, all-out, each-out}
 use Rattle.cnf.specs.Cnf.{Assignment, Clause, pos, literalHolds, clauseHolds}
@@ -19,66 +18,10 @@ use Rattle.clauses.specs.Clause.Laws.{run-length, run-at}
 use Rattle.clauses.specs.Number.{clauseOf}
 use Rattle.request.specs.declared.Request.{Request}
 use Rattle.numeral.specs.declared.Word.{Word}
-use Rattle.numeral.specs.Number.{byteAt, isDigit, noWord, digitsAt, numberAt, literalAt}
-use Rattle.numeral.specs.Number.Laws.{byte-past, digit-yes, digit-low, digit-high, number-none}
+use Rattle.numeral.specs.Number.{byteAt, literalAt}
+use Rattle.numeral.specs.Number.Laws.{byte-past}
 use Rattle.answer.specs.declared.values.Named.{Named}
 use Rattle.answer.specs.Values.{named, refusedBy, keptBy, namedOne, namedFrom, complete, assigned, holding}
-
--- ---- where a number ends: inside the text, with a minus of at most 1
-pub record Within (t : List ℕ) (w : Word) : Type 0 where
-  pub high : w .next ≤ length t
-  pub sign : w .minus ≤ 1
-
--- a byte other than 0 stands inside the text
-byte-in : (t : List ℕ) (p : ℕ) → (byteAt t p ≡ 0 → ⊥) → p < length t
-byte-in t p d = ⊎-elim (λ h. absurd (d (byte-past t p h))) (λ h. h) (le? (length t) p)
-
--- the two ways of a test of digits
-digit? : (b : ℕ) → (isDigit b ≡ false) ⊎ ((isDigit b ≡ true) × (48 ≤ b))
-digit? b =
-    ⊎-elim (λ l. ⊎-elim (λ h. inr (digit-yes b l h, l)) (λ h. inl (digit-high b h)) (le? b 57)) (λ h. inl (digit-low b h)) (le? 48 b)
-
-no-word : (t : List ℕ) → Within t noWord
-no-word t = record { high = omega arith; sign = omega arith }
-
-digits-within : (f m x : ℕ) (t : List ℕ) (p : ℕ) → m ≤ 1 → p ≤ length t → Within t (digitsAt f m x t p)
-unfolding digitsAt
-digits-within zero m x t p s h = record { high = h; sign = s }
-digits-within (suc f) m x t p s h = go (digit? (byteAt t p)) (digits-within f m (x * 10 + (byteAt t p - 48)) t (p + 1) s)
-  where
-    go : (isDigit (byteAt t p) ≡ false) ⊎ ((isDigit (byteAt t p) ≡ true) × (48 ≤ byteAt t p))
-        → (p + 1 ≤ length t → Within t (digitsAt f m (x * 10 + (byteAt t p - 48)) t (p + 1))) → Within t (digitsAt (suc f) m x t p)
-    go (inl e) k = rw e (record { high = h; sign = s })
-    go (inr w) k = let r = k (omega (arith, byte-in t p (λ e. omega arith))) in rw (w .0) r
-
-number-within : (t : List ℕ) (p m : ℕ) → m ≤ 1 → Within t (numberAt t p m)
-unfolding numberAt
-number-within t p m s = go (digit? (byteAt t p))
-  where
-    zero-way : byteAt t p ≡ 48 → (m ≡ 1) ⊎ (m ≡ 1 → ⊥) → Within t (numberAt t p m)
-    zero-way e (inl z) = rw (eq-eqb (byteAt t p) 48 e, eq-eqb m 1 z) (no-word t)
-    zero-way e (inr d) =
-        rw (eq-eqb (byteAt t p) 48 e, ne-eqb m 1 d)
-        (record { high = omega (arith, byte-in t p (λ q. omega arith)); sign = omega arith })
-
-    some-way : isDigit (byteAt t p) ≡ true → 48 ≤ byteAt t p → (byteAt t p ≡ 48) ⊎ (byteAt t p ≡ 48 → ⊥) → Within t (numberAt t p m)
-    some-way e l (inl z) = zero-way z (eq? m 1)
-    some-way e l (inr d) =
-        rw (ne-eqb (byteAt t p) 48 d, e)
-        (digits-within 8 m (byteAt t p - 48) t (p + 1) s (omega (arith, byte-in t p (λ q. omega arith))))
-
-    go : (isDigit (byteAt t p) ≡ false) ⊎ ((isDigit (byteAt t p) ≡ true) × (48 ≤ byteAt t p)) → Within t (numberAt t p m)
-    go (inl e) = rw (number-none t p m e) (no-word t)
-    go (inr w) = some-way (w .0) (w .1) (eq? (byteAt t p) 48)
-
--- a number that was read ends inside the text, and its minus is at most 1
-pub literal-within : (t : List ℕ) (p : ℕ) → Within t (literalAt t p)
-unfolding literalAt
-literal-within t p = go (eq? (byteAt t p) 45)
-  where
-    go : (byteAt t p ≡ 45) ⊎ (byteAt t p ≡ 45 → ⊥) → Within t (literalAt t p)
-    go (inl e) = rw (eq-eqb (byteAt t p) 45 e) (number-within t (p + 1) 1 (omega arith))
-    go (inr d) = rw (ne-eqb (byteAt t p) 45 d) (number-within t p 0 (omega arith))
 
 -- ---- one number of a line
 module _ (top keep : ℕ) (values : List ℕ) (x minus : ℕ) where

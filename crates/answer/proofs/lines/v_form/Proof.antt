@@ -6,7 +6,8 @@ use native.Mathlib.Omega.{arith}
 use lib.ListN.{length}
 use borrow.Author.Needs.{needs}
 use Rattle.answer.specs.Lines.{formFrom, formAt}
-use Rattle.answer.specs.Lines.Laws.{byte-in, form-other, form-first, form-unspaced, form-wordless, form-ends, form-last, form-zero, form-more}
+use Rattle.numeral.specs.Number.Places.{byte-in}
+use Rattle.answer.specs.Lines.Laws.{form-other, form-first, form-unspaced, form-wordless, form-ends, form-last, form-zero, form-more}
 use Rattle.answer.proofs.lines.v_form.Statement.{statement}
 use Rattle.answer.proofs.lines.v_form.Tie as tie
 

@@ -1,6 +1,7 @@
 -- Before each turn, the numbers that are left give what the whole line gives. Assumes nothing.
 use Rattle.answer.specs.Values.{namedFrom}
-use Rattle.answer.specs.Values.Laws.{literal-within, name-zero, name-refused, name-last, name-more, name-none}
+use Rattle.numeral.specs.Number.Places.{literal-within}
+use Rattle.answer.specs.Values.Laws.{name-zero, name-refused, name-last, name-more, name-none}
 use mathlib.Core.Path.{_≡_, refl, _∙_}
 use Prim.Native.Nat.{_+_, _≤_}
 use native.Mathlib.Omega.{arith}
