@@ -1,0 +1,2 @@
+-- What settling says, and what "least" means. Assumes nothing.
+pub mod Settle

@@ -1,0 +1,90 @@
+-- What "least" means (demand 3): the network does the job, and no network of fewer switches does, whatever their number. Assumes nothing.
+use mathlib.Core.Path.{_≡_, sym, ap, _∙_, subst}
+use mathlib.Core.List.{List}
+use mathlib.Core.Logic.{inl, inr, _↔_}
+use Prim.Native.Nat.{ℕ, _≤_}
+use native.Mathlib.Omega.{arith}
+use lib.ListN.{length, length-append, length-replicate}
+use Rattle.prelude.specs.Lists.Laws.{length-tab}
+use Rattle.cnf.specs.Cnf.{Assignment}
+use Rattle.request.specs.declared.Request.{Request}
+use Rattle.request.specs.Numbers.{Good, refusalOf}
+use Rattle.request.specs.Numbers.Laws.{refusal-good, good-refusal}
+use Rattle.network.specs.declared.Network.{Network}
+use Rattle.network.specs.declared.Checked.the-variants.{Does as does}
+use Rattle.network.specs.Networks.{Net, switches, FormedAs, Formed, Does}
+use Rattle.network.specs.Check.{listed, checkedOf}
+use Rattle.network.specs.Meaning.{Means}
+use Rattle.network.specs.Meaning.Laws.{checked-means}
+use Rattle.answer.specs.Decode.{decoded}
+use Rattle.answer.specs.Reading.{readingOf}
+use Rattle.answer.specs.Reading.Meaning.{assignmentIn, taken-request, taken-describes}
+use Rattle.refutation.specs.Refutation.{Lent}
+use Rattle.refutation.specs.Refutation.Sound.{none-unsatisfiable}
+use Rattle.encoding.specs.Least.{unsat-least}
+use Rattle.settle.specs.declared.Settlement.{Settlement}
+use Rattle.settle.specs.declared.Verdict.the-variants.{Least}
+use Rattle.settle.specs.Settle.{smaller, settlement, LeastFor}
+use Rattle.settle.specs.Settle.Exactly.{NoneBelow, Told, least-told, told-least}
+
+-- ---- a network that is decoded fills its arrays
+decoded-seven : (n r : ℕ) (α : Assignment) → r ≤ 7 → length (decoded n r α .literals) ≡ 7
+unfolding decoded
+decoded-seven n r α h = simp (length-append, length-tab, length-replicate) (omega arith)
+
+decoded-sixteen : (n r : ℕ) (α : Assignment) → r ≤ 7 → length (decoded n r α .labels) ≡ 16
+unfolding decoded
+decoded-sixteen n r α h = simp (length-append, length-tab, length-replicate) (omega arith)
+
+-- what the check of a decoded network means
+pub decoded-means : (q : Request) (answer : List ℕ) → readingOf q answer .refusal ≡ 0
+    → Means q (readingOf q answer .network) (checkedOf q (readingOf q answer .network))
+decoded-means q answer taken =
+    let w = taken-describes q answer taken .network in
+    let h = refusal-good q (taken-request q answer taken) .r-high in
+    checked-means q (readingOf q answer .network)
+    (ap (λ (x : Network). length (x .literals)) w ∙ decoded-seven (q .n) (q .r) (assignmentIn q answer) h)
+    (ap (λ (x : Network). length (x .labels)) w ∙ decoded-sixteen (q .n) (q .r) (assignmentIn q answer) h)
+
+-- the network check says "does" of a decoded network exactly where it does the job
+pub does-exactly : (q : Request) (answer : List ℕ) → readingOf q answer .refusal ≡ 0
+    → (checkedOf q (readingOf q answer .network) ≡ does) ↔ Does q (listed (q .r) (readingOf q answer .network))
+does-exactly q answer taken =
+    let m = decoded-means q answer taken .does in
+    let d = taken-describes q answer taken in
+    (λ e. m .0 e .1, λ j. m .1 (record { good = refusal-good q (taken-request q answer taken); size = d .size; form = d .form }, j))
+
+-- the request for k−1 switches is good where that for k is
+smaller-good : (q : Request) → Good q → refusalOf (smaller q) ≡ 0
+smaller-good q g =
+    good-refusal (smaller q)
+    (record { n-low = g .n-low; n-high = g .n-high; table-low = g .table-low; r-high = (let h = g .r-high in omega arith); m-high = g .m-high })
+
+module _ (q : Request) (answer refutation : List ℕ) (s : Lent) where
+  -- the network that the answer describes
+  abbrev read : Network
+  read = readingOf q answer .network
+
+  -- at k = 0, and where the refutation for k−1 ends in "none", each network that does the job has k switches or more
+  none-fewer : Good q → NoneBelow q refutation s → (v : Net) → Formed q v → Does q v → q .r ≤ switches v
+  none-fewer g (inl z) v form job = omega arith
+  none-fewer g (inr o) v form job =
+      let h = unsat-least (smaller q) (smaller-good q g) (none-unsatisfiable (smaller q) refutation s o) v form job in omega arith
+
+  -- the conditions of "least" are those of demand 3
+  told-for : Told q answer refutation s → LeastFor q (readingOf q answer .network)
+  told-for t =
+      let m = decoded-means q answer (t .taken) .does .0 (t .does-job) in
+      let a = m .0 in
+      record {
+        size = a .size;
+        form = subst (λ (k : ℕ). FormedAs (q .n) k (listed (q .r) read)) (sym (a .form .literals-long)) (a .form);
+        does = m .1;
+        least = none-fewer (a .good) (t .below);
+      }
+
+  -- where settling says "least", the network that it hands back has k switches and does the job, and none of fewer does
+  pub least-for : settlement q answer refutation s .verdict ≡ Least → LeastFor q (settlement q answer refutation s .network)
+  least-for e =
+      let t = least-told q answer refutation s e in
+      subst (LeastFor q) (sym (ap (λ (x : Settlement). x .network) (told-least q answer refutation s t))) (told-for t)
