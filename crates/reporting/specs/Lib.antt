@@ -1,0 +1,2 @@
+-- The text of the report (document 01, "The report program"). Assumes nothing.
+pub mod Report

@@ -1,0 +1,30 @@
+-- What the report prints for the bytes of three files. Assumes nothing.
+use mathlib.Core.List.{List}
+use Prim.Native.Nat.{ℕ}
+use Rattle.request.specs.declared.Reading.{Reading}
+use Rattle.request.specs.declared.Reading.the-variants.{Taken, Refused as requestRefused}
+use Rattle.request.specs.Line.{requestOf}
+use Rattle.refutation.specs.Refutation.{Lent}
+use Rattle.reports.specs.Reports.{refusedText, failsText, worksText, leastText}
+use Rattle.settle.specs.declared.Settlement.{Settlement}
+use Rattle.settle.specs.declared.Verdict.{Verdict}
+use Rattle.settle.specs.declared.Verdict.the-variants.{Least, Works, Fails, Refused}
+use Rattle.settle.specs.Settle.{settlement}
+use Rattle.network.specs.declared.Network.{Network}
+pub mod Laws
+
+-- "It prints \"least k\", \"works k number\", \"fails k row\" or \"refused number\"; after the first two, a line \"s v a b\" per switch ..
+-- and \"sink c\""
+abbrev pub verdictText : ℕ → Network → Verdict → List ℕ
+verdictText k w Least = leastText k w
+verdictText k w (Works number) = worksText k number w
+verdictText k w (Fails row) = failsText k row
+verdictText k w (Refused number) = refusedText number
+
+-- a request that is read is settled; one that is refused is "refused number" too
+abbrev pub readText : Reading → List ℕ → List ℕ → Lent → List ℕ
+readText (Taken q) answer refutation s = verdictText (q .r) (settlement q answer refutation s .network) (settlement q answer refutation s .verdict)
+readText (requestRefused number) answer refutation s = refusedText number
+
+unfoldable pub reportText : List ℕ → List ℕ → List ℕ → Lent → List ℕ
+reportText request answer refutation s = readText (requestOf request) answer refutation s
