@@ -10,11 +10,13 @@ use Rattle.request.specs.Numbers.{refusalOf}
 use Rattle.request.specs.declared.Request.{Request}
 use Rattle.clauses.specs.Formula.{formulaOf}
 use Rattle.clauses.specs.Count.{variableCount, clauseCount, literalCount}
+use Rattle.encoding.specs.Encoding.{FileMeans}
 use Rattle.text.specs.Decimal.{decimal}
 use Rattle.text.specs.Text.{lineText}
 use Rattle.dimacs.specs.declared.Answer.{Answer}
 use Rattle.dimacs.specs.declared.Answer.the-variants.{Bytes, Refused}
 pub mod Laws
+pub mod Means
 
 -- document 01's number of an answer, 0 where it is a length, and the length
 abbrev pub numberOf : Answer → ℕ
@@ -55,3 +57,8 @@ writeAnswer q room =
 -- "bytes past it stand", and a refusal writes nothing
 unfoldable pub fileWritten : Request → List ℕ → List ℕ
 fileWritten q old = cond (eqb (numberOf (writeAnswer q (length old))) 0) (written old 0 (fileText q)) old
+
+-- what a length says of the file besides (demand 3): its formula is satisfiable exactly when some network of r switches does the job
+abbrev pub Meaning : Request → Answer → Type 0
+Meaning q (Bytes k) = FileMeans q
+Meaning q (Refused x) = Unit {0}

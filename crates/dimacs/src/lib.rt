@@ -10,7 +10,7 @@ ghost use Rattle.prelude.specs.Written.{written};
 ghost use Rattle.request.specs.Numbers.{Good};
 ghost use Rattle.clauses.specs.Formula.{formulaOf};
 ghost use Rattle.clauses.specs.Count.{clauseCount};
-ghost use Rattle.dimacs.specs.File.{headText, bodyText, sizeAnswer, writeAnswer, fileWritten, Bounded};
+ghost use Rattle.dimacs.specs.File.{headText, bodyText, sizeAnswer, writeAnswer, fileWritten, Bounded, Meaning};
 
 // The length of the file in bytes, or the number of the refusal.
 pub enum Answer {
@@ -87,6 +87,7 @@ pub fn file_size(q: Request) -> Answer
 pub fn write_file(q: Request, buffer: &mut [u8]) -> Answer
     ensures answer { λ x. ⌜ x ≡ writeAnswer q (length (now (buffer .entry))) ⌝ }
     ensures bytes { λ _. ⌜ now (buffer .exit) ≡ fileWritten q (now (buffer .entry)) ⌝ }
+    ensures meaning { λ x. ⌜ Meaning q x ⌝ }
 {
     let size = clauses::count::count(q);
     if size.refusal != 0 {

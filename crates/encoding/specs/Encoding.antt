@@ -88,9 +88,12 @@ does-satisfies n r m rows w small form d =
           (rows-hold n r m w values stands (P r + 2 * n * r) rows d (rows-after n r w rest small))),
     )
 
--- a request's clauses are satisfiable exactly when some network of r switches does its job
-pub encoding : (q : Request) → refusalOf q ≡ 0
-    → Satisfiable (formulaOf q) ↔ ((w : Net) × (switches w ≡ q .r) × Formed q w × Does q w)
+-- "satisfiable exactly when some network of r switches does the job", said of a request's clauses
+abbrev pub FileMeans : Request → Type 0
+FileMeans q = Satisfiable (formulaOf q) ↔ ((w : Net) × (switches w ≡ q .r) × Formed q w × Does q w)
+
+-- it holds of every request that is taken
+pub encoding : (q : Request) → refusalOf q ≡ 0 → FileMeans q
 unfolding formulaOf
 encoding q good = (
   λ (α, s). (listed (q .r) (decoded (q .n) (q .r) α), satisfied-switches q α s, satisfied-formed q α s, satisfied-does q α s),

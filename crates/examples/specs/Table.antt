@@ -28,6 +28,9 @@ use Rattle.lrat.specs.State.{standsIn, clauseAt, hintsOf, without, deleteAll}
 use Rattle.lrat.specs.Check.{concluded, addStep, deleteStep, stepOf, lineStep as checkStep, linesFrom as checkFrom, linesOf}
 use Rattle.store.specs.Store.{storeRefusal}
 use Rattle.refutation.specs.Refutation.{Lent, lent, outcomeNumber, refusalBefore, outcomeOf, linesFor, checkAnswer}
+use Rattle.settle.specs.Settle.{verdictBelow, settlement}
+use Rattle.reports.specs.Reports.{numberText, switchText, shownSwitches, sinkText, networkText, refusedText, failsText, worksText, leastText}
+use Rattle.reporting.specs.Report.{reportText}
 use Rattle.text.specs.Decimal.{digits as numeral, decimal}
 use Rattle.text.specs.Text.{literalText, literalsText, lineText}
 use Rattle.dimacs.specs.File.{headText, bodyText, fileText}
@@ -115,6 +118,16 @@ slices = lent (replicate 20 (Z.pos 0)) (replicate 20 0) (replicate 4 0) (replica
 refuted : List ℕ → List ℕ
 refuted t = outcomeNumber (checkAnswer noSwitch t slices .outcome) ∷ checkAnswer noSwitch t slices .count ∷ []
 
+-- a refutation of it
+noRefutation : List ℕ
+noRefutation =
+    -- 7 0 5 6 1 2 4 0
+    55 ∷ 32 ∷ 48 ∷ 32 ∷ 53 ∷ 32 ∷ 54 ∷ 32 ∷ 49 ∷ 32 ∷ 50 ∷ 32 ∷ 52 ∷ 32 ∷ 48 ∷ 10 ∷ []
+
+-- the report for "1 01 1 1", its answer and that refutation
+oneReport : List ℕ
+oneReport = reportText (49 ∷ 32 ∷ 48 ∷ 49 ∷ 32 ∷ 49 ∷ 32 ∷ 49 ∷ 10 ∷ []) oneAnswer noRefutation slices
+
 -- r = M = 7, n = 4, all on
 largest : Request
 largest = record { n = 4; table = 65535; r = 7; m = 7 }
@@ -128,7 +141,7 @@ rows =
     -- P3: V 1,856 and C 27,547; its T beside them
     ∷ record { computed = length (flatten (formulaOf largest)) ∷ variablesAndClauses largest; stated = 77088 ∷ 1856 ∷ 27547 ∷ [] }
     -- P4: "7 0 5 6 1 2 4 0": none
-    ∷ record { computed = refuted (55 ∷ 32 ∷ 48 ∷ 32 ∷ 53 ∷ 32 ∷ 54 ∷ 32 ∷ 49 ∷ 32 ∷ 50 ∷ 32 ∷ 52 ∷ 32 ∷ 48 ∷ 10 ∷ []); stated = 0 ∷ 0 ∷ [] }
+    ∷ record { computed = refuted noRefutation; stated = 0 ∷ 0 ∷ [] }
     -- P5: hints 5 6 1 2: 21
     ∷ record { computed = refuted (55 ∷ 32 ∷ 48 ∷ 32 ∷ 53 ∷ 32 ∷ 54 ∷ 32 ∷ 49 ∷ 32 ∷ 50 ∷ 32 ∷ 48 ∷ 10 ∷ []); stated = 21 ∷ 0 ∷ [] }
     -- P6: hints 5 6 3: 20
@@ -137,6 +150,13 @@ rows =
     ∷ record { computed = refuted (56 ∷ 32 ∷ 48 ∷ 32 ∷ 53 ∷ 32 ∷ 54 ∷ 32 ∷ 49 ∷ 32 ∷ 50 ∷ 32 ∷ 52 ∷ 32 ∷ 48 ∷ 10 ∷ []); stated = 17 ∷ 0 ∷ [] }
     -- P8: labels 0 0 2 2
     ∷ record { computed = answered oneSwitch oneAnswer; stated = 0 ∷ 0 ∷ 0 ∷ 2 ∷ 2 ∷ [] }
+    -- and, with P4's refutation, the report "least 1", "0 0 0 2", "sink 2"
+    ∷ record {
+      computed = oneReport;
+      stated = 108 ∷ 101 ∷ 97 ∷ 115 ∷ 116 ∷ 32 ∷ 49 ∷ 10
+          ∷ 48 ∷ 32 ∷ 48 ∷ 32 ∷ 48 ∷ 32 ∷ 50 ∷ 10
+          ∷ 115 ∷ 105 ∷ 110 ∷ 107 ∷ 32 ∷ 50 ∷ 10 ∷ [];
+    }
     -- P9: "does"
     ∷ record { computed = exclusive 2; stated = 0 ∷ [] }
     -- P10: row 1
@@ -157,7 +177,8 @@ rows =
 
 -- each row's computed numbers are those stated
 pub holds : map (λ (x : Row). x .computed) rows ≡ map (λ (x : Row). x .stated) rows
-unfolding rows noSwitch slices refuted wordsFrom wordsAt literalsAt idsAt runFrom runAt deletionAt hintsAfter additionAt lineAfter lineAt standsIn clauseAt hintsOf without deleteAll
+unfolding rows noSwitch slices refuted noRefutation oneReport verdictBelow settlement numberText switchText shownSwitches sinkText networkText refusedText failsText worksText leastText reportText
+    wordsFrom wordsAt literalsAt idsAt runFrom runAt deletionAt hintsAfter additionAt lineAfter lineAt standsIn clauseAt hintsOf without deleteAll
     concluded addStep deleteStep stepOf checkStep checkFrom linesOf storeRefusal refusalBefore outcomeOf linesFor checkAnswer clauseCount literalCount clausesBefore literalsBefore
     onRowCount onRowLiterals pairsBefore triplesBefore
     equalLists oneSwitch oneAnswer answered digitsAt numberAt wordAt lineEnd standsAt formFrom formAt refusedBy keptBy namedOne namedFrom complete assigned holding

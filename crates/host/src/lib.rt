@@ -7,6 +7,7 @@ ghost use mathlib.Core.Path.{_≡_};
 ghost use lib.ListN.{length};
 ghost use Rattle.dimacs.specs.File.{numberOf, sizeAnswer, writeAnswer, fileWritten};
 ghost use Rattle.answer.specs.Reading.{readingOf};
+ghost use Rattle.encoding.specs.Encoding.{FileMeans};
 ghost use Rattle.cnf.specs.Cnf.{Satisfiable};
 ghost use Rattle.clauses.specs.Formula.{formulaOf};
 ghost use Rattle.refutation.specs.Refutation.{lent, outcomeNumber, checkAnswer, checkLeaves};
@@ -40,6 +41,7 @@ pub extern "C" fn nk_write_file(
     ensures refusal { λ x. ⌜ x ≡ numberOf (writeAnswer (asked n table r m) (lib.ListN.length (now (buffer .entry)))) ⌝ }
     ensures bytes { λ _. ⌜ now (buffer .exit) ≡ fileWritten (asked n table r m) (now (buffer .entry)) ⌝ }
     ensures count { λ _. ⌜ now (length .exit) ≡ bytesOr (now (length .entry)) (writeAnswer (asked n table r m) (lib.ListN.length (now (buffer .entry)))) ⌝ }
+    ensures meaning { λ x. ⌜ (x ≡ 0 → FileMeans (asked n table r m)) ⌝ }
 {
     match dimacs::write_file(Request { n, table, r, m }, buffer) {
         Answer::Bytes(count) => {

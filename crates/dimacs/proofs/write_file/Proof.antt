@@ -6,6 +6,7 @@ use native.Mathlib.Omega.{arith}
 use lib.ListN.{length}
 use Rattle.dimacs.specs.File.{fileText}
 use Rattle.dimacs.specs.File.Laws.{sizes-refusal, Counted, sizes-counted, file-length, write-refused, file-refused, write-short, file-short, write-long, file-wrote}
+use Rattle.dimacs.specs.File.Means.{answer-means}
 use borrow.Author.Needs.{needs}
 use Rattle.dimacs.proofs.write_file.Statement.{statement}
 use Rattle.dimacs.proofs.write_file.Tie as tie
@@ -19,7 +20,8 @@ returns c =
     let s = n .before .before in
     let q = s .args .q in
     let e = sizes-refusal q (n .count .ensures) in
-    (write-refused q e (c .if1 .taken) (length (s .args .buffer .now)), file-refused q e (c .if1 .taken) (s .args .buffer .now))
+    let w = write-refused q e (c .if1 .taken) (length (s .args .buffer .now)) in
+    (w, (file-refused q e (c .if1 .taken) (s .args .buffer .now), answer-means q _ _ w))
 
 -- past the test the request is good, and its V and C are at hand
 counted : (c : tie.Else1) → Counted (c .before .before .before .before .args .q) (c .before .before .count .result)
@@ -47,7 +49,8 @@ returns-2 c =
     let g = counted (b .before .before) in
     let a = b .before .before .before .before .before .before .args in
     let t = total b in
-    (write-short (a .q) g (omega arith), file-short (a .q) g (a .buffer .now) (omega arith))
+    let w = write-short (a .q) g {room = length (a .buffer .now)} (omega arith) in
+    (w, (file-short (a .q) g (a .buffer .now) (omega arith), answer-means (a .q) _ _ w))
 
 put-head-requires : tie.Need-put-head-requires
 put-head-requires c κs =
@@ -77,10 +80,9 @@ returns-3 c =
     let a = b .before .before .before .before .before .before .args in
     let g = counted (b .before .before) in
     let t = total b in
-    let r = p .before .before .if2 .left in (
-      write-long (a .q) g (omega arith) t,
-      file-wrote (a .q) g (a .buffer .now) (omega arith) (p .put-head .ensures) (w .put-body .ensures),
-    )
+    let r = p .before .before .if2 .left in
+    let x = write-long (a .q) g {room = length (a .buffer .now)} (omega arith) t in
+    (x, (file-wrote (a .q) g (a .buffer .now) (omega arith) (p .put-head .ensures) (w .put-body .ensures), answer-means (a .q) _ _ x))
 
 pub write-file-spec : {M : Type 1} → statement M
 write-file-spec =

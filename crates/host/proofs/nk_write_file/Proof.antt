@@ -1,5 +1,6 @@
 -- The answer is a length or a refusal; either is handed on as a number, and the buffer is as the writer leaves it. Assumes nothing.
 use Rattle.dimacs.specs.File.{numberOf}
+use Rattle.dimacs.specs.File.Means.{number-means}
 use Rattle.host.specs.Entries.{bytesOr}
 use mathlib.Core.Path.{sym, ap, _∙_}
 use lib.ListN.{length}
@@ -27,7 +28,8 @@ returns c =
     let w = c .before .before .before .before .before in
     let s = w .before .before .before in
     let e = sym (c .before .count .given .1) ∙ w .write-file .ensures .0 in
-    (ap numberOf e, (w .write-file .ensures .1, ap (bytesOr (s .args .length .now)) e))
+    let z = ap numberOf e in
+    (z, (w .write-file .ensures .1 .0, (ap (bytesOr (s .args .length .now)) e, λ o. number-means _ _ (sym z ∙ o))))
 
 same-length-2 : tie.Need-same-length-2
 same-length-2 c = search needs
@@ -37,7 +39,8 @@ returns-2 c =
     let w = c .before .before .before .before .before in
     let s = w .before .before .before in
     let e = sym (c .before .number .given .1) ∙ w .write-file .ensures .0 in
-    (ap numberOf e, (w .write-file .ensures .1, ap (bytesOr (s .args .length .now)) e))
+    let z = ap numberOf e in
+    (z, (w .write-file .ensures .1 .0, (ap (bytesOr (s .args .length .now)) e, λ o. number-means _ _ (sym z ∙ o))))
 
 pub nk-write-file-spec : {M : Type 1} → statement M
 nk-write-file-spec =
