@@ -1,5 +1,6 @@
 /* The C entries of the proved library for the clause file of a request, for
- * reading an answer to it, and for checking a refutation of it.
+ * reading an answer to it, for checking a refutation of it, and for settling
+ * it: whether the answer's network has the least number of switches.
  *
  * A request is handed over as numbers:
  *   n      inputs, 1 to 4
@@ -7,8 +8,8 @@
  *   r      switches, 0 to 7
  *   m      the series bound M, 0 to 7
  *
- * Each entry answers 0 when the request is taken, else the number of the
- * refusal. Of 2 to 6 the lowest number that applies is given:
+ * Each entry but nk_settle answers 0 when the request is taken, else the
+ * number of the refusal. Of 2 to 6 the lowest number that applies is given:
  *   2 bad n, 3 bad table, 4 bad r, 5 bad M, 6 the buffer is too short.
  * An answer's lines are read from the top, and the first fault counts:
  *   9 a line's form, 10 a variable above V or an X or L variable named twice;
@@ -80,6 +81,32 @@ uint32_t nk_check_refutation(uint8_t n, uint16_t table, uint8_t r, uint8_t m, co
                             size_t text_len, int32_t *literals, size_t literals_len,
                             uint32_t *pairs, size_t pairs_len, uint32_t *added, size_t added_len,
                             uint8_t *values, size_t values_len, uint32_t *count);
+
+/* Settles a request with k switches by an answer to it and a refutation of the
+ * request with k - 1 switches. Both texts may be empty. The lent slices are
+ * those of nk_check_refutation, for k - 1. At k = 0 the refutation is not read
+ * and the slices may be empty.
+ *
+ * 0: least. The network does the job, and no network of fewer switches does,
+ *    whatever its size. *number is 0.
+ * 1: works. The network does the job; *number is the refutation's refusal: 7,
+ *    8, 14, 15 or 16 to 23.
+ * 2: fails. *number is the lowest wrong row of the network.
+ * 3: refused. *number is the answer's refusal: 2 to 5 or 9 to 12.
+ *
+ * network[0] is the network's number of switches r, network[1 .. 8) its
+ * literals, of which the first r count, and network[8 .. 24) its labels, of
+ * which the first 2r+2 count; all other entries are 0. It is the network that
+ * the answer describes; after 3 all 24 bytes are 0.
+ *
+ * After 0 and 1 the slices are, for k above 0, as nk_check_refutation leaves
+ * them; at k = 0 and after 2 and 3 they stand.
+ */
+uint32_t nk_settle(uint8_t n, uint16_t table, uint8_t k, uint8_t m, const uint8_t *answer,
+                   size_t answer_len, const uint8_t *refutation, size_t refutation_len,
+                   int32_t *literals, size_t literals_len, uint32_t *pairs, size_t pairs_len,
+                   uint32_t *added, size_t added_len, uint8_t *values, size_t values_len,
+                   uint8_t network[24], uint32_t *number);
 
 #ifdef __cplusplus
 }

@@ -1,9 +1,12 @@
 // The entries that a host in C or C++ calls: numbers and slices in, a number out, 0 for "taken". A slice passes as a pointer and a
 // length. On a refusal the number behind an out-parameter stands.
 use dimacs::Answer;
+use network::Network;
 use refutation::Outcome;
 use request::Request;
+use settle::Verdict;
 ghost use mathlib.Core.Path.{_≡_};
+ghost use mathlib.Core.List.{_∷_, _++_};
 ghost use lib.ListN.{length};
 ghost use Rattle.dimacs.specs.File.{numberOf, sizeAnswer, writeAnswer, fileWritten};
 ghost use Rattle.answer.specs.Reading.{readingOf};
@@ -11,7 +14,8 @@ ghost use Rattle.encoding.specs.Encoding.{FileMeans};
 ghost use Rattle.cnf.specs.Cnf.{Satisfiable};
 ghost use Rattle.clauses.specs.Formula.{formulaOf};
 ghost use Rattle.refutation.specs.Refutation.{lent, outcomeNumber, checkAnswer, checkLeaves};
-ghost use Rattle.host.specs.Entries.{asked, bytesOr};
+ghost use Rattle.settle.specs.Settle.{verdictNumber, settlement, settleLeaves, LeastFor};
+ghost use Rattle.host.specs.Entries.{asked, bytesOr, verdictCode, networkBytes};
 
 // The size of a request's clause file.
 #[no_mangle]
@@ -95,4 +99,107 @@ pub extern "C" fn nk_check_refutation(
         Outcome::None => 0,
         Outcome::Refused(number) => number as u32,
     }
+}
+
+// The number of a verdict for the host: 0 least, 1 works, 2 fails, 3 refused.
+fn verdict_code(verdict: Verdict) -> u32
+    ensures { λ x. ⌜ x ≡ verdictCode verdict ⌝ }
+{
+    match verdict {
+        Verdict::Least => 0,
+        Verdict::Works(_) => 1,
+        Verdict::Fails(_) => 2,
+        Verdict::Refused(_) => 3,
+    }
+}
+
+// The number that goes with a verdict: the refutation's, the row or the refusal; 0 with "least".
+fn verdict_number(verdict: Verdict) -> u32
+    ensures { λ x. ⌜ x ≡ verdictNumber verdict ⌝ }
+{
+    match verdict {
+        Verdict::Least => 0,
+        Verdict::Works(number) => number as u32,
+        Verdict::Fails(row) => row as u32,
+        Verdict::Refused(number) => number as u32,
+    }
+}
+
+// A network's r, its 7 literals and its 16 labels in one array.
+fn in_bytes(r: u8, literals: [u8; 7], labels: [u8; 16]) -> [u8; 24]
+    ensures { λ x. ⌜ x ≡ r ∷ (literals ++ labels) ⌝ }
+{
+    [
+        r,
+        literals[0],
+        literals[1],
+        literals[2],
+        literals[3],
+        literals[4],
+        literals[5],
+        literals[6],
+        labels[0],
+        labels[1],
+        labels[2],
+        labels[3],
+        labels[4],
+        labels[5],
+        labels[6],
+        labels[7],
+        labels[8],
+        labels[9],
+        labels[10],
+        labels[11],
+        labels[12],
+        labels[13],
+        labels[14],
+        labels[15],
+    ]
+}
+
+fn network_bytes(w: Network) -> [u8; 24]
+    ensures { λ x. ⌜ x ≡ networkBytes w ⌝ }
+{
+    let literals = w.literals;
+    let labels = w.labels;
+    in_bytes(w.r, literals, labels)
+}
+
+// Settles a request with r = k by an answer and a refutation for k-1, over four lent slices: 0 least, 1 works, 2 fails, 3 refused. The
+// number that goes with the verdict goes behind number, and the network that it is of into network.
+#[no_mangle]
+pub extern "C" fn nk_settle(
+    n: u8,
+    table: u16,
+    k: u8,
+    m: u8,
+    answer: &[u8],
+    refutation: &[u8],
+    literals: &mut [i32],
+    pairs: &mut [u32],
+    added: &mut [u32],
+    values: &mut [u8],
+    network: &mut [u8; 24],
+    number: &mut u32,
+) -> u32
+    ensures verdict { λ x. ⌜ x ≡ verdictCode (settlement (asked n table k m) (now (answer .entry)) (now (refutation .entry)) (lent (now (literals .entry)) (now (pairs .entry)) (now (added .entry)) (now (values .entry))) .verdict) ⌝ }
+    ensures number { λ _. ⌜ now (number .exit) ≡ verdictNumber (settlement (asked n table k m) (now (answer .entry)) (now (refutation .entry)) (lent (now (literals .entry)) (now (pairs .entry)) (now (added .entry)) (now (values .entry))) .verdict) ⌝ }
+    ensures network { λ _. ⌜ now (network .exit) ≡ networkBytes (settlement (asked n table k m) (now (answer .entry)) (now (refutation .entry)) (lent (now (literals .entry)) (now (pairs .entry)) (now (added .entry)) (now (values .entry))) .network) ⌝ }
+    ensures slices { λ _. ⌜ lent (now (literals .exit)) (now (pairs .exit)) (now (added .exit)) (now (values .exit)) ≡ settleLeaves (asked n table k m) (now (answer .entry)) (now (refutation .entry)) (lent (now (literals .entry)) (now (pairs .entry)) (now (added .entry)) (now (values .entry))) ⌝ }
+    ensures least { λ x. ⌜ (x ≡ 0 → LeastFor (asked n table k m) (settlement (asked n table k m) (now (answer .entry)) (now (refutation .entry)) (lent (now (literals .entry)) (now (pairs .entry)) (now (added .entry)) (now (values .entry))) .network)) ⌝ }
+{
+    let settled = settle::settle(
+        Request { n, table, r: k, m },
+        answer,
+        refutation,
+        literals,
+        pairs,
+        added,
+        values,
+    );
+    let w = settled.network;
+    *network = network_bytes(w);
+    let verdict = settled.verdict;
+    *number = verdict_number(verdict);
+    verdict_code(verdict)
 }
