@@ -1,5 +1,6 @@
-// The entries that a host in C or C++ calls: numbers and slices in, a number out, 0 for "taken". A slice passes as a pointer and a
-// length. On a refusal the number behind an out-parameter stands.
+// The entries that a host in C or C++ calls: numbers and slices in, a number out, 0 for "taken", "none" or "least". A slice passes as
+// a pointer and a length, an array as a pointer. On a refusal the number behind size or length stands; count, number and network are
+// always written.
 use dimacs::Answer;
 use network::Network;
 use refutation::Outcome;

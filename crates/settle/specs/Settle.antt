@@ -23,7 +23,8 @@ pub mod Laws
 pub mod Exactly
 pub mod Meaning
 
--- the number that document 01 prints with a verdict: "works k number", "fails k row", "refused number"; 0 for "least k", which has none
+-- the number that document 01 prints with a verdict: "works k number", "fails k row", "refused number"; 0 with "least k", which has
+-- none
 abbrev pub verdictNumber : Verdict → ℕ
 verdictNumber Least = 0
 verdictNumber (Works x) = x
@@ -54,7 +55,8 @@ judged does v w = record { verdict = v; network = w }
 judged (Wrong row) v w = record { verdict = Fails row; network = w }
 judged (formRefused x) v w = refusedWith x
 
--- settling: "the answer's refusals; \"fails\" with the row; then, for k above 0, \"works\" with the refutation's number; else \"least\""
+-- settling: "the answer's refusals; \"fails\" with the row; then, for k above 0, \"works\" with the refutation's number; else
+-- \"least\""
 unfoldable pub settlement : Request → List ℕ → List ℕ → Lent → Settlement
 settlement q answer refutation s =
     cond (eqb (readingOf q answer .refusal) 0)
@@ -88,6 +90,6 @@ pub record LeastFor (q : Request) (w : Network) : Type 0 where
   -- it does the job: "on each on row a walk from the source's net to the sink's net uses at most M closed switches, and on each off
   -- row no walk of closed switches joins them"
   pub does : Does q (listed (q .r) w)
-  -- no network with fewer does: "Each other network that demand 3 compares with k may have any number r of switches, past 7 too: its
-  -- literals and labels are then lists of r and N entries, and the request's n, table and M stay"
+  -- no network with fewer does: "Each other network that demand 3 compares with k may have any number r of switches, past 7 too:
+  -- its literals and labels are then lists of r and N entries, and the request's n, table and M stay"
   pub least : (v : Net) → Formed q v → Does q v → q .r ≤ switches v

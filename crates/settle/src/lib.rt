@@ -72,6 +72,7 @@ fn verdict_of(outcome: Outcome) -> Verdict
     }
 }
 
+// Settles a request with r = k. The slices are for the check of the refutation; a refusal, "fails" and k = 0 leave them as they are.
 pub fn settle(
     q: Request,
     answer: &[u8],

@@ -11,7 +11,9 @@ zero-network-requires : tie.Need-zero-network-requires
 zero-network-requires c κs = search needs
 
 returns : tie.Need-returns
-returns c = ap (λ (w : Network). let x : Settlement = record { verdict = Refused (c .before .args .number); network = w } in x) (c .zero-network .ensures)
+returns c =
+    ap (λ (w : Network). let x : Settlement = record { verdict = Refused (c .before .args .number); network = w } in x)
+    (c .zero-network .ensures)
 
 pub refused-spec : {M : Type 1} → statement M
 refused-spec = tie.close (tie.spec zero-network-requires returns)

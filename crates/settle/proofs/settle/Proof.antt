@@ -3,6 +3,7 @@
 use mathlib.Core.Path.{_≡_, refl, sym, ap, _∙_, subst}
 use mathlib.Core.List.{List}
 use Prim.Native.Nat.{ℕ}
+use native.Mathlib.Omega.{arith}
 use lib.IntN.{ℤ}
 use borrow.Author.Needs.{needs}
 use Rattle.request.specs.declared.Request.{Request}
@@ -29,7 +30,8 @@ module _ (q : Request) (answer refutation : List ℕ) (literals : List ℤ) (pai
   -- what is ensured of a settlement and of the slices
   abbrev Answer : Settlement → Lent → Type 0
   Answer x l =
-      (x ≡ settlement q answer refutation before) × ((l ≡ settleLeaves q answer refutation before) × (x .verdict ≡ Least → LeastFor q (x .network)))
+      (x ≡ settlement q answer refutation before)
+      × ((l ≡ settleLeaves q answer refutation before) × (x .verdict ≡ Least → LeastFor q (x .network)))
 
   answered : (x : Settlement) (l : Lent) → Settles q answer refutation before x l → Answer x l
   answered x l s = (
@@ -55,7 +57,8 @@ module _ (q : Request) (answer refutation : List ℕ) (literals : List ℤ) (pai
           → l ≡ leftBy k before (leavesBelow q refutation before) → Answer x l
       is-judged x l k e f g =
           let n = ap (λ (y : Decoded). y .network) d-is in
-          let s = settles-judged q answer refutation before (ap (λ (y : Decoded). y .refusal) (sym d-is) ∙ ok) k (sym e ∙ c-is ∙ ap (checkedOf q) n) in
+          let s = settles-judged q answer refutation before (ap (λ (y : Decoded). y .refusal) (sym d-is) ∙ ok) k
+          (sym e ∙ c-is ∙ ap (checkedOf q) n) in
           answered x l (record { says = f ∙ ap (judged k (verdictBelow q refutation before)) n ∙ s .says; leaves = g ∙ s .leaves })
 
       is-zero : c ≡ Does → q .r ≡ 0 → (x : Settlement) → x ≡ record { verdict = Least; network = d .network } → Answer x before
@@ -66,7 +69,8 @@ module _ (q : Request) (answer refutation : List ℕ) (literals : List ℤ) (pai
       -- the check of the refutation
       is-more : c ≡ Does → (q .r ≡ 0 → ⊥) → (p : Request) → p ≡ smaller q
           → (t : Ended) → t ≡ checkAnswer p refutation before → (l : Lent) → l ≡ checkLeaves p refutation before
-          → (v : Verdict) → v ≡ outcomeVerdict (t .outcome) → (x : Settlement) → x ≡ record { verdict = v; network = d .network } → Answer x l
+          → (v : Verdict) → v ≡ outcomeVerdict (t .outcome)
+          → (x : Settlement) → x ≡ record { verdict = v; network = d .network } → Answer x l
       is-more e h p p-is t t-is l l-is v v-is x f =
           let b = below-more q refutation before h in
           let o = t-is ∙ ap (λ (y : Request). checkAnswer y refutation before) p-is in
@@ -90,7 +94,8 @@ refused-requires c κs = search needs
 
 returns : tie.Need-returns
 returns c = let t = c .before in let a = t .before .before in let s = entry a in
-    is-refused (s .args .q) (s .args .answer .now) (s .args .refutation .now) (s .args .literals .now) (s .args .pairs .now) (s .args .added .now) (s .args .values .now) _ (a .read-answer .ensures) (t .if1 .taken) _ (c .refused .ensures)
+    is-refused (s .args .q) (s .args .answer .now) (s .args .refutation .now) (s .args .literals .now) (s .args .pairs .now)
+    (s .args .added .now) (s .args .values .now) _ (a .read-answer .ensures) (t .if1 .taken) _ (c .refused .ensures)
 
 check-network-requires : tie.Need-check-network-requires
 check-network-requires c κs = search needs
@@ -115,7 +120,9 @@ told-requires-2 c κs = search needs
 
 returns-2 : tie.Need-returns-2
 returns-2 c = let i = c .before in let t = i .before .before in let k = t .before .before in let a = reading k in let s = entry a in
-    is-zero (s .args .q) (s .args .answer .now) (s .args .refutation .now) (s .args .literals .now) (s .args .pairs .now) (s .args .added .now) (s .args .values .now) _ (a .read-answer .ensures) (k .before .before .if1 .left) _ (k .check-network .ensures .0) (t .enum-told .given .1) (i .if2 .taken) _ (c .told2 .ensures)
+    is-zero (s .args .q) (s .args .answer .now) (s .args .refutation .now) (s .args .literals .now) (s .args .pairs .now)
+    (s .args .added .now) (s .args .values .now) _ (a .read-answer .ensures) (k .before .before .if1 .left) _ (k .check-network .ensures .0)
+    (t .enum-told .given .1) (omega (arith, i .if2 .taken)) _ (c .told2 .ensures)
 
 one-fewer-requires : tie.Need-one-fewer-requires
 one-fewer-requires c κs = search needs
@@ -131,11 +138,15 @@ told-requires-3 c κs = search needs
 
 returns-3 : tie.Need-returns-3
 returns-3 c = let t = c .before .before in let k = t .before .before in let a = reading k in let s = entry a in
-    is-judged (s .args .q) (s .args .answer .now) (s .args .refutation .now) (s .args .literals .now) (s .args .pairs .now) (s .args .added .now) (s .args .values .now) _ (a .read-answer .ensures) (k .before .before .if1 .left) _ (k .check-network .ensures .0) _ _ _ (t .checked .given .1) (c .refused2 .ensures) refl
+    is-judged (s .args .q) (s .args .answer .now) (s .args .refutation .now) (s .args .literals .now) (s .args .pairs .now)
+    (s .args .added .now) (s .args .values .now) _ (a .read-answer .ensures) (k .before .before .if1 .left) _ (k .check-network .ensures .0)
+    _ _ _ (t .checked .given .1) (c .refused2 .ensures) refl
 
 returns-4 : tie.Need-returns-4
 returns-4 c = let t = c .before .before in let k = t .before .before in let a = reading k in let s = entry a in
-    is-judged (s .args .q) (s .args .answer .now) (s .args .refutation .now) (s .args .literals .now) (s .args .pairs .now) (s .args .added .now) (s .args .values .now) _ (a .read-answer .ensures) (k .before .before .if1 .left) _ (k .check-network .ensures .0) _ _ _ (t .checked2 .given .1) (c .told .ensures) refl
+    is-judged (s .args .q) (s .args .answer .now) (s .args .refutation .now) (s .args .literals .now) (s .args .pairs .now)
+    (s .args .added .now) (s .args .values .now) _ (a .read-answer .ensures) (k .before .before .if1 .left) _ (k .check-network .ensures .0)
+    _ _ _ (t .checked2 .given .1) (c .told .ensures) refl
 
 same-length : tie.Need-same-length
 same-length c = search needs
@@ -153,7 +164,9 @@ returns-5 : tie.Need-returns-5
 returns-5 c = let v = c .before in let h = v .before .before .before .before .before .before .before .before in
     let o = h .before .before .before .before .before in let e = o .before in
     let t = e .before .before in let k = t .before .before in let a = reading k in let s = entry a in
-    is-more (s .args .q) (s .args .answer .now) (s .args .refutation .now) (s .args .literals .now) (s .args .pairs .now) (s .args .added .now) (s .args .values .now) _ (a .read-answer .ensures) (k .before .before .if1 .left) _ (k .check-network .ensures .0) (t .enum-told .given .1) (e .if2 .left)
+    is-more (s .args .q) (s .args .answer .now) (s .args .refutation .now) (s .args .literals .now) (s .args .pairs .now)
+    (s .args .added .now) (s .args .values .now) _ (a .read-answer .ensures) (k .before .before .if1 .left) _ (k .check-network .ensures .0)
+    (t .enum-told .given .1) (λ z. omega (arith, e .if2 .left))
     _ (o .one-fewer .ensures) _ (h .check .ensures .0) _ (h .check .ensures .1 .0) _ (v .verdict-of .ensures) _ (c .told3 .ensures)
 
 pub settle-spec : {M : Type 1} → statement M

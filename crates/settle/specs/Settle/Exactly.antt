@@ -1,5 +1,5 @@
--- Each verdict is given exactly where the document gives it; "The decoded network comes with each verdict, the network of zeros with a
--- refusal". Assumes nothing.
+-- Each verdict is given exactly where the document gives it; "The decoded network comes with each verdict, the network of zeros
+-- with a refusal". Assumes nothing.
 use mathlib.Core.Path.{_≡_, refl, sym, ap, _∙_}
 use mathlib.Core.Bool.{Bool, true, false, cond}
 use mathlib.Core.List.{List}
@@ -40,13 +40,15 @@ judged-works (Wrong row) v w x e = absurd (let z : _≡_ {A = ℕ} 0 1 = cc in o
 judged-works (formRefused y) v w x e = absurd (let z : _≡_ {A = ℕ} 0 1 = cc in omega arith)
 
 -- "fails" only with a wrong row
-judged-fails : (c : Checked) (v : Verdict) (w : Network) (row : ℕ) → (v ≡ Fails row → ⊥) → judged c v w .verdict ≡ Fails row → c ≡ Wrong row
+judged-fails : (c : Checked) (v : Verdict) (w : Network) (row : ℕ) → (v ≡ Fails row → ⊥) → judged c v w .verdict ≡ Fails row
+    → c ≡ Wrong row
 judged-fails does v w row d e = absurd (d e)
 judged-fails (Wrong k) v w row d e = cc
 judged-fails (formRefused y) v w row d e = absurd (let z : _≡_ {A = ℕ} 0 1 = cc in omega arith)
 
 -- a refusal only with a refusal
-judged-refused : (c : Checked) (v : Verdict) (w : Network) (x : ℕ) → (v ≡ Refused x → ⊥) → judged c v w .verdict ≡ Refused x → c ≡ formRefused x
+judged-refused : (c : Checked) (v : Verdict) (w : Network) (x : ℕ) → (v ≡ Refused x → ⊥) → judged c v w .verdict ≡ Refused x
+    → c ≡ formRefused x
 judged-refused does v w x d e = absurd (d e)
 judged-refused (Wrong row) v w x d e = absurd (let z : _≡_ {A = ℕ} 0 1 = cc in omega arith)
 judged-refused (formRefused y) v w x d e = cc
@@ -98,7 +100,8 @@ module _ (q : Request) (refutation : List ℕ) (s : Lent) where
   below-works : (x : ℕ) → verdictBelow q refutation s ≡ Works x → (q .r ≡ 0 → ⊥) × (outcome ≡ outcomeRefused x)
   below-works x e =
       ⊎-elim
-      (λ (z : q .r ≡ 0). absurd (let f : Least ≡ Works x = below-zero q refutation s z .0 ∙ e in let z : _≡_ {A = ℕ} 0 1 = cc in omega arith))
+      (λ (z : q .r ≡ 0).
+      absurd (let f : Least ≡ Works x = below-zero q refutation s z .0 ∙ e in let z : _≡_ {A = ℕ} 0 1 = cc in omega arith))
       (λ (d : q .r ≡ 0 → ⊥). (d, outcome-works outcome x (below-more q refutation s d .0 ∙ e)))
       (eq? (q .r) 0)
 
@@ -126,7 +129,10 @@ unfolding checkedOf rowsAnswer
 never-refused q answer taken x e =
     let w : Network = readingOf q answer .network in
     rows-unrefused (ltb (firstWrong q w) (2 ^ (q .n))) (firstWrong q w) x
-    (rw (eq-eqb (refusalOf q) 0 (taken-request q answer taken), described-fits q (assignmentIn q answer) (readingOf q answer .network) (taken-describes q answer taken)) at e)
+    (rw (
+      eq-eqb (refusalOf q) 0 (taken-request q answer taken),
+      described-fits q (assignmentIn q answer) (readingOf q answer .network) (taken-describes q answer taken),
+    ) at e)
 
 -- ---- the four verdicts
 module _ (q : Request) (answer refutation : List ℕ) (s : Lent) where
@@ -142,7 +148,8 @@ module _ (q : Request) (answer refutation : List ℕ) (s : Lent) where
       → judged checked (verdictBelow q refutation s) read .verdict ≡ settlement q answer refutation s .verdict
   taken-verdict z = ap (λ (x : Settlement). x .verdict) (settles-judged q answer refutation s z checked refl .says)
 
-  refused-verdict : (readingOf q answer .refusal ≡ 0 → ⊥) → Refused (readingOf q answer .refusal) ≡ settlement q answer refutation s .verdict
+  refused-verdict : (readingOf q answer .refusal ≡ 0 → ⊥)
+      → Refused (readingOf q answer .refusal) ≡ settlement q answer refutation s .verdict
   refused-verdict d = ap (λ (x : Settlement). x .verdict) (settles-refused q answer refutation s d .says)
 
   -- the settlement, where the check of the network is known
@@ -150,7 +157,8 @@ module _ (q : Request) (answer refutation : List ℕ) (s : Lent) where
       → settlement q answer refutation s ≡ judged c (verdictBelow q refutation s) read
   known z c e = sym (settles-judged q answer refutation s z c (sym e) .says)
 
-  -- the three conditions of "least": the answer is taken, the network check says "does", and k is 0 or the refutation ends in "none"
+  -- the three conditions of "least": the answer is taken, the network check says "does", and k is 0 or the refutation ends in
+  -- "none"
   pub record Told : Type 0 where
     pub taken : readingOf q answer .refusal ≡ 0
     pub does-job : checkedOf q (readingOf q answer .network) ≡ does
@@ -163,18 +171,22 @@ module _ (q : Request) (answer refutation : List ℕ) (s : Lent) where
       let j = judged-least checked (verdictBelow q refutation s) read (taken-verdict z ∙ e) in
       record { taken = z; does-job = j .0; below = below-least q refutation s (j .1) })
       (λ (d : readingOf q answer .refusal ≡ 0 → ⊥).
-      absurd (let f : Refused (readingOf q answer .refusal) ≡ Least = refused-verdict d ∙ e in let z : _≡_ {A = ℕ} 0 1 = cc in omega arith))
+      absurd
+      (let f : Refused (readingOf q answer .refusal) ≡ Least = refused-verdict d ∙ e in
+      let z : _≡_ {A = ℕ} 0 1 = cc in omega arith))
       (eq? (readingOf q answer .refusal) 0)
 
   -- where they hold, "least" is said, with the decoded network
   pub told-least : Told → settlement q answer refutation s ≡ record { verdict = Least; network = readingOf q answer .network }
-  told-least t = known (t .taken) does (t .does-job) ∙ ap (λ (v : Verdict). judged does v read) (least-below q refutation s (t .below))
+  told-least t =
+      known (t .taken) does (t .does-job) ∙ ap (λ (v : Verdict). judged does v read) (least-below q refutation s (t .below))
 
   -- "least" is said exactly where they hold
   pub least-exactly : (settlement q answer refutation s .verdict ≡ Least) ↔ Told
   least-exactly = (least-told, λ t. ap (λ (x : Settlement). x .verdict) (told-least t))
 
-  -- "works" with a number exactly where the answer is taken, the network check says "does", k is above 0 and the refutation has that number
+  -- "works" with a number exactly where the answer is taken, the network check says "does", k is above 0 and the refutation is
+  -- refused with that number
   pub works-exactly : (x : ℕ) → (settlement q answer refutation s .verdict ≡ Works x)
       ↔ ((readingOf q answer .refusal ≡ 0) × (checkedOf q (readingOf q answer .network) ≡ does) × (q .r ≡ 0 → ⊥)
       × (checkAnswer (smaller q) refutation s .outcome ≡ outcomeRefused x))
@@ -186,7 +198,9 @@ module _ (q : Request) (answer refutation : List ℕ) (s : Lent) where
         let b = below-works q refutation s x (j .1) in
         (z, j .0, b .0, b .1))
         (λ (d : readingOf q answer .refusal ≡ 0 → ⊥).
-        absurd (let f : Refused (readingOf q answer .refusal) ≡ Works x = refused-verdict d ∙ e in let z : _≡_ {A = ℕ} 0 1 = cc in omega arith))
+        absurd
+        (let f : Refused (readingOf q answer .refusal) ≡ Works x = refused-verdict d ∙ e in
+        let z : _≡_ {A = ℕ} 0 1 = cc in omega arith))
         (eq? (readingOf q answer .refusal) 0),
     λ (taken, job, above, o).
         ap (λ (y : Settlement). y .verdict) (known taken does job) ∙ sym (below-more q refutation s above .0) ∙ ap outcomeVerdict o,
@@ -201,13 +215,16 @@ module _ (q : Request) (answer refutation : List ℕ) (s : Lent) where
         (λ (z : readingOf q answer .refusal ≡ 0).
         (z, judged-fails checked (verdictBelow q refutation s) read row (below-plain q refutation s row .0) (taken-verdict z ∙ e)))
         (λ (d : readingOf q answer .refusal ≡ 0 → ⊥).
-        absurd (let f : Refused (readingOf q answer .refusal) ≡ Fails row = refused-verdict d ∙ e in let z : _≡_ {A = ℕ} 0 1 = cc in omega arith))
+        absurd
+        (let f : Refused (readingOf q answer .refusal) ≡ Fails row = refused-verdict d ∙ e in
+        let z : _≡_ {A = ℕ} 0 1 = cc in omega arith))
         (eq? (readingOf q answer .refusal) 0),
     λ (taken, wrong). ap (λ (y : Settlement). y .verdict) (known taken (Wrong row) wrong),
   )
 
   -- a refusal exactly where it is the answer's
-  pub refused-exactly : (x : ℕ) → (settlement q answer refutation s .verdict ≡ Refused x) ↔ ((readingOf q answer .refusal ≡ x) × (x ≡ 0 → ⊥))
+  pub refused-exactly : (x : ℕ) → (settlement q answer refutation s .verdict ≡ Refused x)
+      ↔ ((readingOf q answer .refusal ≡ x) × (x ≡ 0 → ⊥))
   refused-exactly x = (
     λ e.
         ⊎-elim
@@ -230,5 +247,6 @@ module _ (q : Request) (answer refutation : List ℕ) (s : Lent) where
       ∙ judged-network checked (verdictBelow q refutation s) read (never-refused q answer z)
 
   -- "the network of zeros with a refusal"
-  pub refused-network : (readingOf q answer .refusal ≡ 0 → ⊥) → settlement q answer refutation s ≡ refusedWith (readingOf q answer .refusal)
+  pub refused-network : (readingOf q answer .refusal ≡ 0 → ⊥)
+      → settlement q answer refutation s ≡ refusedWith (readingOf q answer .refusal)
   refused-network d = sym (settles-refused q answer refutation s d .says)

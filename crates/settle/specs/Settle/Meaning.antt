@@ -1,4 +1,4 @@
--- What "least" means (demand 3): the network does the job, and no network of fewer switches does, whatever their number. Assumes nothing.
+-- What "least" means (demand 3): the network does the job, and no network of fewer switches does. Assumes nothing.
 use mathlib.Core.Path.{_≡_, sym, ap, _∙_, subst}
 use mathlib.Core.List.{List}
 use mathlib.Core.Logic.{inl, inr, _↔_}
@@ -58,7 +58,13 @@ does-exactly q answer taken =
 smaller-good : (q : Request) → Good q → refusalOf (smaller q) ≡ 0
 smaller-good q g =
     good-refusal (smaller q)
-    (record { n-low = g .n-low; n-high = g .n-high; table-low = g .table-low; r-high = (let h = g .r-high in omega arith); m-high = g .m-high })
+    (record {
+      n-low = g .n-low;
+      n-high = g .n-high;
+      table-low = g .table-low;
+      r-high = (let h = g .r-high in omega arith);
+      m-high = g .m-high;
+    })
 
 module _ (q : Request) (answer refutation : List ℕ) (s : Lent) where
   -- the network that the answer describes
