@@ -27,21 +27,6 @@ namespace {
 
 Random random_numbers(20240608);
 
-// A text that can be printed in one line.
-std::string shown(const std::string& text) {
-    std::string all = "\"";
-    for (char c : text) {
-        if (c == '\n') {
-            all += "\\n";
-        } else if (c < ' ' || c > '~') {
-            all += "\\" + std::to_string(int(std::uint8_t(c))) + ".";
-        } else {
-            all += c;
-        }
-    }
-    return all + "\"";
-}
-
 // ---------------------------------------------------------------------------
 // Calls of the library
 // ---------------------------------------------------------------------------

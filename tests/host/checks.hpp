@@ -66,6 +66,24 @@ class Group {
     unsigned long faults_ = 0;
 };
 
+// A text that can be printed in one line; the middle of a long one is left out.
+[[maybe_unused]] std::string shown(const std::string& text) {
+    if (text.size() > 600) {
+        return shown(text.substr(0, 200)) + " ... " + shown(text.substr(text.size() - 200));
+    }
+    std::string all = "\"";
+    for (char c : text) {
+        if (c == '\n') {
+            all += "\\n";
+        } else if (c < ' ' || c > '~') {
+            all += "\\" + std::to_string(int(std::uint8_t(c))) + ".";
+        } else {
+            all += c;
+        }
+    }
+    return all + "\"";
+}
+
 // Any request as numbers.
 std::string numbers_of(const Request& q) {
     return "n=" + std::to_string(q.n) + " table=" + std::to_string(q.table) +

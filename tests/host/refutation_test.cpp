@@ -39,24 +39,6 @@ Random random_numbers(20240609);
 // How often each number came up.
 unsigned long seen[24] = {0};
 
-// A text that can be printed in one line; the middle of a long one is left out.
-std::string shown(const std::string& text) {
-    if (text.size() > 600) {
-        return shown(text.substr(0, 200)) + " ... " + shown(text.substr(text.size() - 200));
-    }
-    std::string all = "\"";
-    for (char c : text) {
-        if (c == '\n') {
-            all += "\\n";
-        } else if (c < ' ' || c > '~') {
-            all += "\\" + std::to_string(int(std::uint8_t(c))) + ".";
-        } else {
-            all += c;
-        }
-    }
-    return all + "\"";
-}
-
 // ---------------------------------------------------------------------------
 // Slices
 // ---------------------------------------------------------------------------
@@ -176,7 +158,7 @@ Call call_check(const Request& q, const std::string& text, const Slices& slices)
     const Slices after = {literals.slice(), pairs.slice(), added.slice(), values.slice()};
     const bool stand = literals.edges_stand() && pairs.edges_stand() && added.edges_stand() &&
                        values.edges_stand();
-    return {{number, count, after}, stand};
+    return {{int(number), count, after}, stand};
 }
 
 // Where two slices of one length differ first; nothing when they are equal.

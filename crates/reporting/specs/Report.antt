@@ -9,7 +9,7 @@ use Rattle.reports.specs.Reports.{refusedText, failsText, worksText, leastText}
 use Rattle.settle.specs.declared.Settlement.{Settlement}
 use Rattle.settle.specs.declared.Verdict.{Verdict}
 use Rattle.settle.specs.declared.Verdict.the-variants.{Least, Works, Fails, Refused}
-use Rattle.settle.specs.Settle.{settlement}
+use Rattle.settle.specs.Settle.{settlement, settleLeaves}
 use Rattle.network.specs.declared.Network.{Network}
 pub mod Laws
 
@@ -28,3 +28,11 @@ readText (requestRefused number) answer refutation s = refusedText number
 
 unfoldable pub reportText : List ℕ → List ℕ → List ℕ → Lent → List ℕ
 reportText request answer refutation s = readText (requestOf request) answer refutation s
+
+-- the slices afterwards: as settling leaves them, and untouched where the request is refused
+abbrev pub readLeaves : Reading → List ℕ → List ℕ → Lent → Lent
+readLeaves (Taken q) answer refutation s = settleLeaves q answer refutation s
+readLeaves (requestRefused number) answer refutation s = s
+
+unfoldable pub reportLeaves : List ℕ → List ℕ → List ℕ → Lent → Lent
+reportLeaves request answer refutation s = readLeaves (requestOf request) answer refutation s

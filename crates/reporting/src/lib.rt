@@ -7,7 +7,7 @@ ghost use mathlib.Core.Path.{_≡_};
 ghost use Prim.Native.Nat.{_≤_};
 ghost use Rattle.refutation.specs.Refutation.{lent};
 ghost use Rattle.reports.specs.Texts.{shown};
-ghost use Rattle.reporting.specs.Report.{reportText};
+ghost use Rattle.reporting.specs.Report.{reportText, reportLeaves};
 
 pub fn report(
     request: &[u8],
@@ -18,7 +18,8 @@ pub fn report(
     added: &mut [u32],
     values: &mut [u8],
 ) -> Text
-    ensures { λ t. ⌜ shown t ≡ reportText (now (request .entry)) (now (answer .entry)) (now (refutation .entry)) (lent (now (literals .entry)) (now (pairs .entry)) (now (added .entry)) (now (values .entry))) ⌝ }
+    ensures text { λ t. ⌜ shown t ≡ reportText (now (request .entry)) (now (answer .entry)) (now (refutation .entry)) (lent (now (literals .entry)) (now (pairs .entry)) (now (added .entry)) (now (values .entry))) ⌝ }
+    ensures slices { λ t. ⌜ lent (now (literals .exit)) (now (pairs .exit)) (now (added .exit)) (now (values .exit)) ≡ reportLeaves (now (request .entry)) (now (answer .entry)) (now (refutation .entry)) (lent (now (literals .entry)) (now (pairs .entry)) (now (added .entry)) (now (values .entry))) ⌝ }
 {
     match request::read::read_request(request) {
         Reading::Refused(number) => reports::refused_text(number),

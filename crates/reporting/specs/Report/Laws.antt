@@ -10,8 +10,8 @@ use Rattle.refutation.specs.Refutation.{Lent}
 use Rattle.reports.specs.Reports.{refusedText}
 use Rattle.settle.specs.declared.Settlement.{Settlement}
 use Rattle.settle.specs.declared.Verdict.{Verdict}
-use Rattle.settle.specs.Settle.{settlement}
-use Rattle.reporting.specs.Report.{verdictText, readText, reportText}
+use Rattle.settle.specs.Settle.{settlement, settleLeaves}
+use Rattle.reporting.specs.Report.{verdictText, readText, reportText, readLeaves, reportLeaves}
 
 module _ (request answer refutation : List ℕ) (s : Lent) where
   -- a request that is refused
@@ -26,3 +26,13 @@ module _ (request answer refutation : List ℕ) (s : Lent) where
   report-settled q e x f v g =
       ap (verdictText (q .r) (x .network)) (sym g) ∙ ap (λ (y : Settlement). verdictText (q .r) (y .network) (y .verdict)) f
       ∙ ap (λ (r : Reading). readText r answer refutation s) e
+
+  -- the slices, likewise
+  pub leaves-refused : (number : ℕ) → requestRefused number ≡ requestOf request → s ≡ reportLeaves request answer refutation s
+  unfolding reportLeaves
+  leaves-refused number e = ap (λ (r : Reading). readLeaves r answer refutation s) e
+
+  pub leaves-settled : (q : Request) → Taken q ≡ requestOf request → (l : Lent) → l ≡ settleLeaves q answer refutation s
+      → l ≡ reportLeaves request answer refutation s
+  unfolding reportLeaves
+  leaves-settled q e l f = f ∙ ap (λ (r : Reading). readLeaves r answer refutation s) e
