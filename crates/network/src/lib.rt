@@ -3,7 +3,6 @@
 // A network of at most 7 switches is a literal for each switch and a label for each terminal, in arrays that go in and out by
 // value: 24 bytes, copied where they are handed on. Entries past r literals and 2r + 2 labels are 0 in a network that we make and
 // unread in one that we are given.
-pub mod check;
 pub mod value;
 
 pub struct Network {

@@ -91,7 +91,7 @@ pub fn settle(
         return refused(read.refusal);
     }
     let decoded = read.network;
-    let checked = network::check::check_network(q, decoded);
+    let checked = network_check::check_network(q, decoded);
     match checked {
         Checked::Refused(number) => refused(number),
         Checked::Wrong(row) => told(Verdict::Fails(row), decoded),

@@ -34,7 +34,7 @@ fn show_test(n: u8, table: u16, r: u8, m: u8) {
 }
 
 fn show_check(q: Request, w: Network) {
-    match network::check::check_network(q, w) {
+    match network_check::check_network(q, w) {
         Checked::Does => {
             io::write_all(1, b"does");
         }

@@ -1,14 +1,14 @@
 -- After t steps the marks are the terminals within t closed switches of the sink. Assumes nothing.
 use Rattle.network.specs.Check.{shutAt, labelIn, nearIn, near}
 use Rattle.network.specs.Check.Laws.{near-zero, near-more, near-all}
 use mathlib.Core.Path.{_≡_, _∙_}
 use mathlib.Core.Bool.{false}
 use Prim.Native.Nat.{ℕ, _+_, _-_, _*_, _≤_, _<_}
 use native.Mathlib.Omega.{arith}
 use lib.ListN.{getD}
 use borrow.Author.Needs.{needs}
-use Rattle.network.proofs.check.near_source.Statement.{statement}
-use Rattle.network.proofs.check.near_source.Tie as tie
+use Rattle.network_check.proofs.near_source.Statement.{statement}
+use Rattle.network_check.proofs.near_source.Tie as tie
 
 abbrev Inv-loop : tie.InvT-loop
 Inv-loop r m shut labels marked₀ t₀ marked t = (t ≤ m) × ((i : ℕ) → i < 2 * r + 2 → getD marked i false ≡ near r (shutAt shut) (labelIn labels) t i)

@@ -1,13 +1,13 @@
 -- The terminals below the index are tested against the sink's label. Assumes nothing.
-use Rattle.network.proofs.Filled.{Filled, filled-none, filled-set}
+use Rattle.network_check.proofs.Filled.{Filled, filled-none, filled-set}
 use Rattle.network.specs.Check.Laws.{sink-test}
 use Rattle.network.specs.Check.{atSink, labelIn}
 use mathlib.Core.Bool.{false}
 use Prim.Native.Nat.{_+_, _-_, _≤_}
 use native.Mathlib.Omega.{arith}
 use borrow.Author.Needs.{needs}
-use Rattle.network.proofs.check.at_sink.Statement.{statement}
-use Rattle.network.proofs.check.at_sink.Tie as tie
+use Rattle.network_check.proofs.at_sink.Statement.{statement}
+use Rattle.network_check.proofs.at_sink.Tie as tie
 
 abbrev Inv-loop : tie.InvT-loop
 Inv-loop r labels sink x₀ i₀ x i = (i ≤ sink + 1) × Filled false (atSink r (labelIn labels)) x₀ x i

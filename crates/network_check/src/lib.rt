@@ -3,8 +3,8 @@
 // A row's closed switches are found once. On an on row the terminals within t switches of the sink are found for t = 0 to M; on
 // an off row the nets at the two ends of each closed switch are merged, one switch after the other, and the source and the sink
 // must stay apart. Merging needs no bound on the length of a walk.
-use crate::Checked;
-use crate::Network;
+use network::Checked;
+use network::Network;
 use request::Request;
 ghost use mathlib.Core.Path.{_≡_};
 ghost use mathlib.Core.Bool.{Bool, true, false};

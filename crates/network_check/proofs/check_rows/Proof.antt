@@ -1,15 +1,15 @@
 -- The rows below k are right; the first that is not is the answer. Assumes nothing.
 use borrow.Author.Count.{below-more}
 use Rattle.rows.specs.Rows.Laws.{one-shifted}
 use Rattle.network.specs.Check.Laws.{rightAt, rows-wrong, rows-right}
 use borrow.Author.Tests.{not-true, not-false}
 use mathlib.Core.Path.{_≡_, sym, _∙_}
 use mathlib.Core.Bool.{true}
 use Prim.Native.Nat.{ℕ, _-_, _^_, _≤_, _<_}
 use native.Mathlib.Omega.{arith}
 use borrow.Author.Needs.{needs}
-use Rattle.network.proofs.check.check_rows.Statement.{statement}
-use Rattle.network.proofs.check.check_rows.Tie as tie
+use Rattle.network_check.proofs.check_rows.Statement.{statement}
+use Rattle.network_check.proofs.check_rows.Tie as tie
 
 abbrev Inv-loop : tie.InvT-loop
 Inv-loop q w count k₀ k = (count ≡ 2 ^ (q .n)) × (k ≤ count) × ((j : ℕ) → j < k → rightAt q w j ≡ true)

@@ -1,11 +1,11 @@
 -- The array of closed switches agrees with the row's closed switches below r, and the arrays with the lists that are read, so the
 -- two searches give the same on both. Assumes nothing.
 use Rattle.network.specs.Check.{shutAt}
 use Rattle.network.specs.Check.Laws.{fitting-literals, right-on, right-off}
 use mathlib.Core.Path.{_∙_}
 use borrow.Author.Needs.{needs}
-use Rattle.network.proofs.check.row_right.Statement.{statement}
-use Rattle.network.proofs.check.row_right.Tie as tie
+use Rattle.network_check.proofs.row_right.Statement.{statement}
+use Rattle.network_check.proofs.row_right.Tie as tie
 
 closed-on-requires : tie.Need-closed-on-requires
 closed-on-requires c κs = (search needs, search needs, search needs, search needs, fitting-literals _ _ (c .before .before .pre .1))

@@ -1,12 +1,12 @@
 -- The literals below the index are below 2n. Assumes nothing.
 use Rattle.network.specs.Check.Laws.{literals-high, literals-below}
 use borrow.Author.Count.{below-more}
 use Prim.Native.Nat.{ℕ, _-_, _*_, _≤_, _<_}
 use native.Mathlib.Omega.{arith}
 use lib.ListN.{getD}
 use borrow.Author.Needs.{needs}
-use Rattle.network.proofs.check.literals_low.Statement.{statement}
-use Rattle.network.proofs.check.literals_low.Tie as tie
+use Rattle.network_check.proofs.literals_low.Statement.{statement}
+use Rattle.network_check.proofs.literals_low.Tie as tie
 
 abbrev Inv-loop : tie.InvT-loop
 Inv-loop n r literals count s₀ s = (s ≤ count) × ((k : ℕ) → k < s → getD literals k 0 < 2 * n)

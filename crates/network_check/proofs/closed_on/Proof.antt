@@ -1,5 +1,5 @@
 -- The switches below the index are found; each by what the value of a literal ensures. Assumes nothing.
-use Rattle.network.proofs.Filled.{Filled, filled-none, filled-set}
+use Rattle.network_check.proofs.Filled.{Filled, filled-none, filled-set}
 use Rattle.rows.specs.Rows.{literalOn}
 use Rattle.rows.specs.Rows.Laws.{literal-there}
 use mathlib.Core.Bool.{false}
@@ -8,8 +8,8 @@ use Prim.Native.Nat.{ℕ, _-_, _≤_}
 use native.Mathlib.Omega.{arith}
 use lib.ListN.{getD}
 use borrow.Author.Needs.{needs}
-use Rattle.network.proofs.check.closed_on.Statement.{statement}
-use Rattle.network.proofs.check.closed_on.Tie as tie
+use Rattle.network_check.proofs.closed_on.Statement.{statement}
+use Rattle.network_check.proofs.closed_on.Tie as tie
 
 abbrev Inv-loop : tie.InvT-loop
 Inv-loop n k r literals shut₀ count s₀ shut s = (s ≤ count) × Filled false (λ (j : ℕ). literalOn n k (getD literals j 0)) shut₀ shut s

@@ -6,13 +6,13 @@ use borrow.Author.Needs.{needs}
 use borrow.Author.Tests.{not-true, not-false}
 use Rattle.request.specs.Numbers.{Good, refusalOf}
 use Rattle.request.specs.Numbers.Laws.{refusal-good}
 use Rattle.network.specs.Check.{fitting, checkedOf}
 use Rattle.network.specs.Check.Laws.{checked-refused, checked-size, checked-literals, checked-labels, checked-rows, form-right}
 use Rattle.network.specs.Meaning.{Means}
 use Rattle.network.specs.Meaning.Laws.{checked-means}
 use Rattle.network.specs.declared.Checked.{Checked}
-use Rattle.network.proofs.check.check_network.Statement.{statement}
-use Rattle.network.proofs.check.check_network.Tie as tie
+use Rattle.network_check.proofs.check_network.Statement.{statement}
+use Rattle.network_check.proofs.check_network.Tie as tie
 
 -- an answer that is the definition's has the meaning; the two arrays are as long as their types say
 answered : (c : tie.Start) {x : Checked} → x ≡ checkedOf (c .args .q) (c .args .w)

@@ -1,14 +1,14 @@
 -- After s switches the array holds each terminal's part with the closed ones among them merged. Assumes nothing.
 use Rattle.network.specs.Check.{shutAt, labelIn, part}
 use Rattle.network.specs.Check.Laws.{apart-of, part-zero, part-open, part-closed}
 use mathlib.Core.Path.{_≡_, _∙_}
 use mathlib.Core.Logic.{⊎-elim}
 use Prim.Native.Nat.{ℕ, _+_, _-_, _*_, _≤_, _<_}
 use native.Mathlib.Omega.{arith}
 use lib.ListN.{getD}
 use borrow.Author.Needs.{needs}
-use Rattle.network.proofs.check.kept_apart.Statement.{statement}
-use Rattle.network.proofs.check.kept_apart.Tie as tie
+use Rattle.network_check.proofs.kept_apart.Statement.{statement}
+use Rattle.network_check.proofs.kept_apart.Tie as tie
 
 abbrev Inv-loop : tie.InvT-loop
 Inv-loop r shut count parts₀ s₀ parts s = (s ≤ count) × ((i : ℕ) → i < 2 * r + 2 → getD parts i 0 ≡ part (shutAt shut) (labelIn parts₀) s i)

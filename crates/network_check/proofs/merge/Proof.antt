@@ -1,15 +1,15 @@
 -- The terminals below the index have their new part, those from there on the old one. Assumes nothing.
 use Rattle.network.specs.Check.Laws.{move-equal, move-other}
-use Rattle.network.proofs.Filled.{Filled, filled-none, filled-set, filled-kept}
+use Rattle.network_check.proofs.Filled.{Filled, filled-none, filled-set, filled-kept}
 use Rattle.network.specs.Check.{move}
 use mathlib.Core.Bool.{true}
 use mathlib.Core.Logic.{⊎-elim}
 use Prim.Native.Nat.{ℕ, _-_, _≤_}
 use native.Mathlib.Omega.{arith}
 use lib.ListN.{getD}
 use borrow.Author.Needs.{needs}
-use Rattle.network.proofs.check.merge.Statement.{statement}
-use Rattle.network.proofs.check.merge.Tie as tie
+use Rattle.network_check.proofs.merge.Statement.{statement}
+use Rattle.network_check.proofs.merge.Tie as tie
 
 abbrev Inv-loop : tie.InvT-loop
 Inv-loop r p q parts count x₀ i₀ x i = (i ≤ count) × Filled 0 (λ (k : ℕ). move true p q (getD parts k 0)) parts x i

@@ -1,14 +1,14 @@
 -- The terminals below the index have their new mark, those from there on the old one. Assumes nothing.
 use Rattle.network.specs.Check.{shutAt, labelIn, nearIn, nearer}
 use Rattle.network.specs.Check.Laws.{nearer-true, nearer-false}
-use Rattle.network.proofs.Filled.{Filled, filled-none, filled-set, filled-kept}
+use Rattle.network_check.proofs.Filled.{Filled, filled-none, filled-set, filled-kept}
 use mathlib.Core.Bool.{true, false}
 use mathlib.Core.Logic.{⊎-elim}
 use Prim.Native.Nat.{_-_, _≤_}
 use native.Mathlib.Omega.{arith}
 use borrow.Author.Needs.{needs}
-use Rattle.network.proofs.check.one_more.Statement.{statement}
-use Rattle.network.proofs.check.one_more.Tie as tie
+use Rattle.network_check.proofs.one_more.Statement.{statement}
+use Rattle.network_check.proofs.one_more.Tie as tie
 
 abbrev Inv-loop : tie.InvT-loop
 Inv-loop r shut labels marked count x₀ i₀ x i = (i ≤ count) × Filled false (nearer r (shutAt shut) (labelIn labels) (nearIn marked)) marked x i

@@ -1,16 +1,16 @@
 -- No end below e leads to a marked terminal; a closed switch that does is the answer, and after the last end there is none.
 -- Assumes nothing.
 use borrow.Author.Count.{below-more}
 use Rattle.network.specs.Check.Laws.{leads-apart, leads-open, leads-unmarked, touching-at, touching-none}
 use Rattle.network.specs.Check.{shutAt, nearIn, labelIn, leads}
 use mathlib.Core.Path.{_≡_}
 use mathlib.Core.Bool.{false}
 use mathlib.Core.Logic.{⊎-elim}
 use Prim.Native.Nat.{ℕ, _+_, _-_, _≤_, _<_}
 use native.Mathlib.Omega.{arith}
 use borrow.Author.Needs.{needs}
-use Rattle.network.proofs.check.touches.Statement.{statement}
-use Rattle.network.proofs.check.touches.Tie as tie
+use Rattle.network_check.proofs.touches.Statement.{statement}
+use Rattle.network_check.proofs.touches.Tie as tie
 
 abbrev Inv-loop : tie.InvT-loop
 Inv-loop r i shut labels marked ends e₀ e = (1 ≤ e) × (e ≤ ends + 1) × ((k : ℕ) → k < e → 1 ≤ k → leads r (shutAt shut) (labelIn labels) (nearIn marked) i k ≡ false)

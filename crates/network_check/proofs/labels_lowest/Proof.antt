@@ -1,14 +1,14 @@
 -- The labels below the index are lowest terminals of their nets. A label at or below its terminal is itself a terminal, so the
 -- label there can be read. Assumes nothing.
 use Rattle.network.specs.Check.Laws.{label-above, label-other, labels-right}
 use borrow.Author.Count.{below-more}
 use mathlib.Core.Path.{_≡_}
 use Prim.Native.Nat.{ℕ, _-_, _≤_, _<_}
 use native.Mathlib.Omega.{arith}
 use lib.ListN.{getD}
 use borrow.Author.Needs.{needs}
-use Rattle.network.proofs.check.labels_lowest.Statement.{statement}
-use Rattle.network.proofs.check.labels_lowest.Tie as tie
+use Rattle.network_check.proofs.labels_lowest.Statement.{statement}
+use Rattle.network_check.proofs.labels_lowest.Tie as tie
 
 abbrev Inv-loop : tie.InvT-loop
 Inv-loop r labels count i₀ i = (i ≤ count) × ((k : ℕ) → k < i → (getD labels k 0 ≤ k) × (getD labels (getD labels k 0) 0 ≡ getD labels k 0))
