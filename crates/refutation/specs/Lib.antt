@@ -1,3 +1,2 @@
 -- Checking a refutation (document 01, "Checking a refutation"). Assumes nothing.
 pub mod Refutation
-pub mod Part

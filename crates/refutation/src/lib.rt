@@ -26,7 +26,6 @@ ghost use Rattle.lrat.specs.Bytes.Scan.{sofar};
 ghost use Rattle.lrat.specs.State.{standsIn, clauseAt, deleted, deleteAll, Holds, Spelled, Fit, Hint, Hints};
 ghost use Rattle.lrat.specs.Check.{leaves, stepOf, lineStep, linesOf};
 ghost use Rattle.refutation.specs.Refutation.{lent, outcomeOf, checkAnswer, checkLeaves};
-ghost use Rattle.refutation.specs.Part.{partOf};
 ghost use Rattle.refutation.specs.declared.Checked.{Checked};
 ghost use Rattle.refutation.specs.declared.Outcome.the-variants.{None, Refused};
 
@@ -739,30 +738,4 @@ pub fn check(
         outcome: ended(s.code),
         count: s.a as u32,
     }
-}
-
-// The literals of an added clause, by its id: the part of the text that its pair names, of c original clauses and a added ones; the
-// empty part where there is no such pair.
-pub fn part<'a>(text: &'a [u8], added: &[u32], c: u32, a: u32, id: u32) -> &'a [u8]
-    ensures { λ r. ⌜ now r ≡ partOf (now (text .entry)) (now (added .entry)) c a id ⌝ }
-{
-    if id <= c {
-        return &text[0..0];
-    }
-    if a <= id - c - 1 {
-        return &text[0..0];
-    }
-    let k = wide(id - c - 1);
-    if added.len() < 2 * k + 2 {
-        return &text[0..0];
-    }
-    let at = wide(added[2 * k]);
-    let n = wide(added[2 * k + 1]);
-    if text.len() < at {
-        return &text[0..0];
-    }
-    if text.len() - at < n {
-        return &text[0..0];
-    }
-    &text[at..at + n]
 }

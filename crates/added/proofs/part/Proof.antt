@@ -1,12 +1,12 @@
 -- Each test that fails gives the empty part. Assumes nothing.
-use Rattle.refutation.specs.Part.{part-low, part-high, part-outside, part-past, part-in}
+use Rattle.added.specs.Part.{part-low, part-high, part-outside, part-past, part-in}
 use mathlib.Core.Path.{_≡_, ap, _∙_}
 use Prim.Native.Nat.{ℕ, _+_, _-_, _*_, _≤_, _<_}
 use native.Mathlib.Omega.{arith}
 use lib.ListN.{length, getD, take, drop}
 use borrow.Author.Needs.{needs}
-use Rattle.refutation.proofs.part.Statement.{statement}
-use Rattle.refutation.proofs.part.Tie as tie
+use Rattle.added.proofs.part.Statement.{statement}
+use Rattle.added.proofs.part.Tie as tie
 
 sub-result : tie.Need-sub-result
 sub-result c = search needs

@@ -1,0 +1,2 @@
+-- The literals of an added clause (document 01, "Checking a refutation"). Assumes nothing.
+pub mod Part
