@@ -6,7 +6,7 @@ use lib.Dec.{eqb}
 use lib.ListN.{replicate}
 use Rattle.prelude.specs.Lists.{tab, firstOf}
 use Rattle.cnf.specs.Cnf.{Assignment}
-use Rattle.clauses.specs.Formula.{X, L}
+use Rattle.formula.specs.Formula.{X, L}
 use Rattle.network.specs.declared.Network.{Network}
 pub mod Laws
 pub mod Meaning

@@ -7,8 +7,8 @@ use lib.ListN.{length, replicate}
 use Rattle.request.specs.Numbers.{refusalOf}
 use Rattle.request.specs.declared.Request.{Request}
 use Rattle.network.specs.Value.{zeros}
-use Rattle.clauses.specs.Count.{variableCount}
-use Rattle.clauses.specs.Formula.{transitivity, choices}
+use Rattle.formula.specs.Count.{variableCount}
+use Rattle.formula.specs.Formula.{transitivity, choices}
 use Rattle.numeral.specs.Number.{byteAt}
 use Rattle.answer.specs.Lines.{lineEnd, standsAt, solutionLine, formAt}
 use Rattle.answer.specs.Values.{kept, namedFrom, complete, assigned, holding}

@@ -7,8 +7,8 @@ use lib.ListN.{getD, set}
 use Rattle.prelude.specs.Lists.{allFrom}
 use Rattle.cnf.specs.Cnf.{Assignment, clauseHolds}
 use Rattle.request.specs.declared.Request.{Request}
-use Rattle.clauses.specs.Formula.{P}
-use Rattle.clauses.specs.Number.{clauseOf}
+use Rattle.formula.specs.Formula.{P}
+use Rattle.formula.specs.Number.{clauseOf}
 use Rattle.numeral.specs.Number.{byteAt, literalAt}
 use Rattle.answer.specs.declared.values.Named.{Named}
 pub mod Laws

@@ -16,7 +16,7 @@ fn literal_for(n: u32, r: u32, values: [u8; 176], s: u32) -> u8
 {
     let mut v: u32 = 0;
     while v < 2 * n {
-        if values::is_true(values, clauses::named::chosen_number(n, r, s, v)) {
+        if values::is_true(values, variables::chosen_number(n, r, s, v)) {
             return v as u8;
         }
         v += 1;
@@ -31,7 +31,7 @@ fn label_for(r: u32, values: [u8; 176], i: u32) -> u8
 {
     let mut j: u32 = 0;
     while j < i {
-        if values::is_true(values, clauses::named::joined_number(r, j, i)) {
+        if values::is_true(values, variables::joined_number(r, j, i)) {
             return j as u8;
         }
         j += 1;

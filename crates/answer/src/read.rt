@@ -174,7 +174,7 @@ fn judge(q: Request, keep: usize, l: Lines) -> Decoded
     }
     let n = q.n as u32;
     let r = q.r as u32;
-    if !values::clauses_hold(q, clauses::named::network_clauses(n, r), values) {
+    if !values::clauses_hold(q, groups::network_clauses(n, r), values) {
         return refused(12);
     }
     let w = decode::decode(n, r, values);
@@ -191,7 +191,7 @@ pub fn read_answer(q: Request, text: &[u8]) -> Decoded
     if size.refusal != 0 {
         return refused(size.refusal);
     }
-    let keep = clauses::named::network_variables(q.n as u32, q.r as u32) as usize;
+    let keep = variables::network_variables(q.n as u32, q.r as u32) as usize;
     let l = read_lines(text, size.variables as usize, keep);
     judge(q, keep, l)
 }

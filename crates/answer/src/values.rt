@@ -1,13 +1,13 @@
 // The values that v lines name.
-use clauses::Clause;
 use cnf::Literal;
+use formula::Clause;
 use request::Request;
 ghost use mathlib.Core.Path.{_≡_};
 ghost use Prim.Native.Nat.{_≤_, _<_};
 ghost use lib.ListN.{length};
 ghost use Rattle.cnf.specs.Cnf.{literalHolds, clauseHolds};
 ghost use Rattle.prelude.specs.Lists.{Each};
-ghost use Rattle.clauses.specs.Clause.{run, literalsOf};
+ghost use Rattle.formula.specs.Clause.{run, literalsOf};
 ghost use Rattle.answer.specs.Values.{namedOne, namedFrom, complete, assigned, holding};
 
 // The values after a line, and whether the line is refused (10).

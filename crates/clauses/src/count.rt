@@ -1,21 +1,11 @@
 // How many variables, clauses and literals a request's clauses have, by the count of on rows.
-use crate::groups;
 use crate::number;
-use crate::off_row;
-use crate::on_row;
+use formula::Sizes;
 use request::Request;
 ghost use mathlib.Core.Path.{_≡_};
 ghost use Prim.Native.Nat.{_≤_};
 ghost use Rattle.request.specs.Numbers.{Good};
-ghost use Rattle.clauses.specs.Count.{clauseCount, literalCount, sizesOf};
-
-// The refusal of a request, 0 where it is taken, and V, C and T, 0 where it is not.
-pub struct Sizes {
-    pub refusal: u8,
-    pub variables: u32,
-    pub clauses: u32,
-    pub literals: u32,
-}
+ghost use Rattle.formula.specs.Count.{clauseCount, literalCount, sizesOf};
 
 // C
 fn clause_count(q: Request) -> u32
@@ -26,11 +16,10 @@ fn clause_count(q: Request) -> u32
     let r = q.r as u32;
     let on = rows::on_rows(q.table);
     let off = (1u32 << n) - on;
-    let on_size = on_row::on_row_count(n, r, q.m as u32);
-    let off_size = off_row::off_row_count(n, r);
-    groups::transitivity_count(r)
-        + groups::choices_count(n, r)
-        + number::weighted(on, off, on_size, off_size)
+    let m = q.m as u32;
+    let on_size = row_clauses::row_count(n, r, m, true);
+    let off_size = row_clauses::row_count(n, r, m, false);
+    groups::network_clauses(n, r) + number::weighted(on, off, on_size, off_size)
 }
 
 // T
@@ -42,11 +31,10 @@ fn literal_count(q: Request) -> u32
     let r = q.r as u32;
     let on = rows::on_rows(q.table);
     let off = (1u32 << n) - on;
-    let on_size = on_row::on_row_literals(n, r, q.m as u32);
-    let off_size = off_row::off_row_literals(n, r);
-    3 * groups::transitivity_count(r)
-        + groups::choices_literals(n, r)
-        + number::weighted(on, off, on_size, off_size)
+    let m = q.m as u32;
+    let on_size = row_clauses::row_literals(n, r, m, true);
+    let off_size = row_clauses::row_literals(n, r, m, false);
+    groups::network_literals(n, r) + number::weighted(on, off, on_size, off_size)
 }
 
 pub fn count(q: Request) -> Sizes

@@ -1,9 +1,5 @@
 // A clause by its number.
-use crate::Clause;
-use crate::groups;
-use crate::off_row;
-use crate::on_row;
-use crate::variables;
+use formula::Clause;
 use request::Request;
 ghost use mathlib.Core.Path.{_≡_};
 ghost use mathlib.Core.Bool.{cond};
@@ -12,10 +8,10 @@ ghost use Prim.Native.Nat.{ℕ, _*_, _+_, _≤_};
 ghost use lib.ListN.{getD};
 ghost use Rattle.rows.specs.Rows.{bit, rowsOf};
 ghost use Rattle.request.specs.Numbers.{Good};
-ghost use Rattle.clauses.specs.Clause.{literalsOf};
-ghost use Rattle.clauses.specs.Formula.{P, rowsFrom};
-ghost use Rattle.clauses.specs.Count.{variablesBefore};
-ghost use Rattle.clauses.specs.Number.{PlaceIs, clauseOf};
+ghost use Rattle.formula.specs.Clause.{literalsOf};
+ghost use Rattle.formula.specs.Formula.{P, rowsFrom};
+ghost use Rattle.formula.specs.Count.{variablesBefore};
+ghost use Rattle.formula.specs.Number.{PlaceIs, clauseOf};
 
 // A row, and a number among its clauses.
 pub struct Place {
@@ -40,7 +36,7 @@ pub(crate) fn variables_before(q: Request, k: u32) -> u32
     let r = q.r as u32;
     let m = q.m as u32;
     let on = rows::on_rows_below(q.table, k as u8);
-    variables::pair_count(r) + 2 * n * r + weighted(on, k - on, m * (2 * r + 1), 2 * r + 2)
+    variables::network_variables(n, r) + weighted(on, k - on, m * (2 * r + 1), 2 * r + 2)
 }
 
 // The clauses of row k, where an on row has so many and an off row so many.
@@ -62,8 +58,9 @@ fn place_of(q: Request, number: u32) -> Place
 {
     let n = q.n as u32;
     let r = q.r as u32;
-    let on = on_row::on_row_count(n, r, q.m as u32);
-    let off = off_row::off_row_count(n, r);
+    let m = q.m as u32;
+    let on = row_clauses::row_count(n, r, m, true);
+    let off = row_clauses::row_count(n, r, m, false);
     let table = q.table;
     let count = 1u32 << n;
     let mut k: u32 = 0;
@@ -93,10 +90,8 @@ fn row_clause_at(q: Request, number: u32) -> Clause
         return Clause::Run(0, 0);
     }
     let before = variables_before(q, k);
-    if rows::row_on(q.table, k as u8) {
-        return on_row::on_row_at(n, r, q.m as u32, before, k, rest);
-    }
-    off_row::off_row_at(n, r, before, k, rest)
+    let on = rows::row_on(q.table, k as u8);
+    row_clauses::row_clause(n, r, q.m as u32, before, k, on, rest)
 }
 
 // The clause of a request with this number; the empty one where there is none, or where the request is refused.
@@ -108,14 +103,9 @@ pub fn clause_at(q: Request, number: u32) -> Clause
     }
     let n = q.n as u32;
     let r = q.r as u32;
-    let nets = groups::transitivity_count(r);
-    if number < nets {
-        return groups::transitivity_at(r, number);
+    let first = groups::network_clauses(n, r);
+    if number < first {
+        return groups::network_clause(n, r, number);
     }
-    let past_nets = number - nets;
-    let choices = groups::choices_count(n, r);
-    if past_nets < choices {
-        return groups::choice_at(n, r, past_nets);
-    }
-    row_clause_at(q, past_nets - choices)
+    row_clause_at(q, number - first)
 }

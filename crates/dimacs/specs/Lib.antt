@@ -1,2 +1,2 @@
--- The clause file (document 01, "The file is ..", "Size of file", "Writing the file"). Assumes nothing.
-pub mod File
+-- What writing the file says beyond its bytes. Assumes nothing.
+pub mod Means

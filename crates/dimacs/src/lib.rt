@@ -1,29 +1,19 @@
-// The clause file (document 01: "Size of file" and "Writing the file"): "p cnf V C", then a line for each clause.
+// Writing the clause file (document 01, "Writing the file"): "p cnf V C", then a line for each clause.
 //
-// The length is worked out exactly, without writing, by a pass over the clauses by number; writing refuses a buffer that is
-// shorter (6) before it writes anything. Bytes past the length stay.
+// A buffer that is shorter than the file is refused (6) before anything is written. Bytes past the length stay.
 use request::Request;
+use size::Answer;
 ghost use mathlib.Core.Path.{_≡_};
 ghost use Prim.Native.Nat.{_+_, _*_, _≤_};
 ghost use lib.ListN.{length};
 ghost use Rattle.prelude.specs.Written.{written};
 ghost use Rattle.request.specs.Numbers.{Good};
-ghost use Rattle.clauses.specs.Formula.{formulaOf};
-ghost use Rattle.clauses.specs.Count.{clauseCount};
-ghost use Rattle.dimacs.specs.File.{headText, bodyText, sizeAnswer, writeAnswer, fileWritten, Bounded, Meaning};
+ghost use Rattle.formula.specs.Formula.{formulaOf};
+ghost use Rattle.formula.specs.Count.{clauseCount};
+ghost use Rattle.size.specs.File.{headText, bodyText, writeAnswer, fileWritten};
+ghost use Rattle.dimacs.specs.Means.{Meaning};
 
-// The length of the file in bytes, or the number of the refusal.
-pub enum Answer {
-    Bytes(usize),
-    Refused(u8),
-}
-
-// The length of the first line.
-fn head_length(variables: u32, clauses: u32) -> usize
-    ensures { λ k. ⌜ (k ≡ length (headText variables clauses)) × (k ≤ 28) ⌝ }
-{
-    text::decimal_length(variables) + text::decimal_length(clauses) + 8
-}
+mod lines;
 
 // Writes the first line at the buffer's start.
 fn put_head(buffer: &mut [u8], variables: u32, clauses: u32) -> usize
@@ -36,25 +26,11 @@ fn put_head(buffer: &mut [u8], variables: u32, clauses: u32) -> usize
     buffer[3] = b'n';
     buffer[4] = b'f';
     buffer[5] = b' ';
-    let middle = text::put_decimal(buffer, 6, variables);
+    let middle = lines::put_decimal(buffer, 6, variables);
     buffer[middle] = b' ';
-    let end = text::put_decimal(buffer, middle + 1, clauses);
+    let end = lines::put_decimal(buffer, middle + 1, clauses);
     buffer[end] = b'\n';
     end + 1
-}
-
-// The length of the clauses' lines.
-fn body_length(q: Request, count: u32) -> usize
-    requires { ⌜ Good q × (count ≡ clauseCount q) ⌝ }
-    ensures { λ k. ⌜ (k ≡ length (bodyText (formulaOf q))) × (k ≤ 300000 * count) ⌝ }
-{
-    let mut k: u32 = 0;
-    let mut total: usize = 0;
-    while k < count {
-        total += text::line_length(clauses::number::clause_at(q, k));
-        k += 1;
-    }
-    total
 }
 
 // Writes the clauses' lines from at on.
@@ -65,22 +41,10 @@ fn put_body(q: Request, count: u32, buffer: &mut [u8], at: usize) -> usize
     let mut k: u32 = 0;
     let mut to = at;
     while k < count {
-        to = text::put_line(buffer, to, clauses::number::clause_at(q, k));
+        to = lines::put_line(buffer, to, clauses::number::clause_at(q, k));
         k += 1;
     }
     to
-}
-
-// The size of the file: its exact length.
-pub fn file_size(q: Request) -> Answer
-    ensures answer { λ x. ⌜ x ≡ sizeAnswer q ⌝ }
-    ensures bound { λ x. ⌜ Bounded q x ⌝ }
-{
-    let size = clauses::count::count(q);
-    if size.refusal != 0 {
-        return Answer::Refused(size.refusal);
-    }
-    Answer::Bytes(head_length(size.variables, size.clauses) + body_length(q, size.clauses))
 }
 
 // Writes the file: its length, or a refusal, which writes nothing.
@@ -89,15 +53,16 @@ pub fn write_file(q: Request, buffer: &mut [u8]) -> Answer
     ensures bytes { λ _. ⌜ now (buffer .exit) ≡ fileWritten q (now (buffer .entry)) ⌝ }
     ensures meaning { λ x. ⌜ Meaning q x ⌝ }
 {
-    let size = clauses::count::count(q);
-    if size.refusal != 0 {
-        return Answer::Refused(size.refusal);
+    match size::file_size(q) {
+        Answer::Refused(x) => Answer::Refused(x),
+        Answer::Bytes(total) => {
+            if buffer.len() < total {
+                return Answer::Refused(6);
+            }
+            let counts = clauses::count::count(q);
+            let at = put_head(buffer, counts.variables, counts.clauses);
+            put_body(q, counts.clauses, buffer, at);
+            Answer::Bytes(total)
+        }
     }
-    let total = head_length(size.variables, size.clauses) + body_length(q, size.clauses);
-    if buffer.len() < total {
-        return Answer::Refused(6);
-    }
-    let at = put_head(buffer, size.variables, size.clauses);
-    put_body(q, size.clauses, buffer, at);
-    Answer::Bytes(total)
 }

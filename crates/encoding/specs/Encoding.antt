@@ -12,7 +12,7 @@ use Rattle.request.specs.Numbers.{refusalOf}
 use Rattle.request.specs.Numbers.Laws.{refusal-good}
 use Rattle.network.specs.Networks.{Net, labelAt, switches, FormedAs, Formed, closedOn, DoneIf, DoesAll, Does}
 use Rattle.network.specs.Check.{listed}
-use Rattle.clauses.specs.Formula.{P, transitivity, choices, onRow, offRow, rowVariables, rowClauses, rowsFrom, formula, formulaOf}
+use Rattle.formula.specs.Formula.{P, transitivity, choices, onRow, offRow, rowVariables, rowClauses, rowsFrom, formula, formulaOf}
 use Rattle.answer.specs.Decode.{decoded}
 use Rattle.answer.specs.Decode.Meaning.{Sat-split, decoded-formed}
 use Rattle.encoding.specs.Clauses.{Sat-join}

@@ -10,7 +10,7 @@ use Rattle.request.specs.declared.Request.{Request}
 use Rattle.request.specs.Numbers.{refusalOf}
 use Rattle.request.specs.Numbers.Laws.{refusal-good}
 use Rattle.network.specs.Networks.{Net, switches, Formed, Does}
-use Rattle.clauses.specs.Formula.{formulaOf}
+use Rattle.formula.specs.Formula.{formulaOf}
 use Rattle.encoding.specs.Grow.{one-more}
 use Rattle.encoding.specs.Encoding.{encoding}
 

@@ -14,7 +14,7 @@ use Rattle.rows.specs.Rows.{Row}
 use Rattle.network.specs.Networks.{Net, source, sink, switchOf, other, literalAt, labelAt, closedOn, Walk, DoneIf}
 use Rattle.network.specs.Check.{part}
 use Rattle.network.specs.Meaning.Laws.{part-label, part-switch, part-walk}
-use Rattle.clauses.specs.Formula.{terminals, X, L, S, sameSide, netSides, switchSides, offRow}
+use Rattle.formula.specs.Formula.{terminals, X, L, S, sameSide, netSides, switchSides, offRow}
 use Rattle.answer.specs.Decode.Meaning.{Sat-split, for-out}
 use Rattle.encoding.specs.Clauses.{Sat-join, for-in, cond-in, then-out, one-out, same-out, same-in}
 use Rattle.encoding.specs.Stands.{Stands, joined-in, joined-out, chosen-in, chosen-out}

@@ -14,7 +14,7 @@ use Rattle.prelude.specs.Blocks.Laws.{for-last}
 use Rattle.cnf.specs.Cnf.{pos, neg, Clause, Formula, Assignment, clauseHolds, Sat}
 use Rattle.rows.specs.Rows.{Row}
 use Rattle.network.specs.Networks.{Net, source, sink, switchOf, other, literalAt, labelAt, closedOn, Enters, Walk, DoneIf}
-use Rattle.clauses.specs.Formula.{X, L, W, Z, someStep, closedStep, firstStep, linkStep, lastStep, onRow}
+use Rattle.formula.specs.Formula.{X, L, W, Z, someStep, closedStep, firstStep, linkStep, lastStep, onRow}
 use Rattle.answer.specs.Decode.Meaning.{Sat-split, for-out, imp2, no2}
 use Rattle.encoding.specs.Clauses.{Sat-join, for-in, cond-in, then-out, else-out, some-from, some-in, one-out, imp1, imp1-in, imp2-in, no2-in}
 use Rattle.encoding.specs.Stands.{Stands, joined-in, joined-out, chosen-in, chosen-out}

@@ -12,7 +12,7 @@ use Rattle.cnf.specs.Cnf.{neg, Formula, Assignment, Sat}
 use Rattle.request.specs.declared.Request.{Request}
 use Rattle.network.specs.Networks.{Net, literalAt, labelAt}
 use Rattle.network.specs.Check.{listed}
-use Rattle.clauses.specs.Formula.{terminals, X, L, triple, transitivity, choice, choices}
+use Rattle.formula.specs.Formula.{terminals, X, L, triple, transitivity, choice, choices}
 use Rattle.answer.specs.Decode.{decoded}
 use Rattle.answer.specs.Decode.Meaning.{decoded-formed}
 use Rattle.answer.specs.Reading.Meaning.{same-test, literal-test}

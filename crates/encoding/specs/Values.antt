@@ -18,11 +18,11 @@ use Rattle.prelude.specs.Blocks.Laws.{each-length, each-at, singles-length, sin
 use Rattle.cnf.specs.Cnf.{Assignment, Sat}
 use Rattle.rows.specs.Rows.{Row}
 use Rattle.network.specs.Networks.{Net, literalAt, labelAt, closedOn, FormedAs, DoneIf, DoesAll}
-use Rattle.clauses.specs.Formula.{terminals, pairNumber, X, P, L, W, S, onRow, offRow, rowVariables, rowClauses, rowsFrom}
-use Rattle.clauses.specs.Formula.Laws.{joined-low, joined-high}
-use Rattle.clauses.specs.Formula.Range.{joined-in}
-use Rattle.clauses.specs.Pairs.{pairsBefore}
-use Rattle.clauses.specs.Pairs.Laws.{pairRow, pair-rows-length, pair-rows-at}
+use Rattle.formula.specs.Formula.{terminals, pairNumber, X, P, L, W, S, onRow, offRow, rowVariables, rowClauses, rowsFrom}
+use Rattle.formula.specs.Formula.Laws.{joined-low, joined-high}
+use Rattle.formula.specs.Formula.Range.{joined-in}
+use Rattle.formula.specs.Pairs.{pairsBefore}
+use Rattle.formula.specs.Pairs.Laws.{pairRow, pair-rows-length, pair-rows-at}
 use Rattle.encoding.specs.Clauses.{Sat-join}
 use Rattle.encoding.specs.Stands.{Stands}
 use Rattle.encoding.specs.OnRow.{entered, walk-on-row}

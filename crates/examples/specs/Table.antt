@@ -13,11 +13,11 @@ use Rattle.rows.specs.Rows.{onBelow, rowsOf, literalOn}
 use Rattle.request.specs.Line.{numberOf, requestOf, lineForm, numbersOf, runEnd, digits, endedBy, single, isTable, tableAt}
 use Rattle.network.specs.declared.Network.{Network}
 use Rattle.network.specs.Check.{numberOf as checkNumber, valuesOf, checkedOf, rowsAnswer, firstWrong, fitting, literalsLow, labelsLowest, listed, near, nearer, touching, atSink, apart, part}
-use Rattle.clauses.specs.Formula.{pairNumber, X, P, L, W, S, transitivity, choice, choices, someStep, closedStep, firstStep, linkStep, lastStep, onRow, netSides, switchSides, offRow, rowVariables, rowClauses, rowsFrom, formula, formulaOf}
-use Rattle.clauses.specs.Count.{split, variablesBefore, variableCount, clausesBefore, clauseCount, literalsBefore, literalCount}
-use Rattle.clauses.specs.Formula.OnRow.{onRowCount, onRowLiterals}
-use Rattle.clauses.specs.Pairs.{pairsBefore, triplesBefore}
-use Rattle.clauses.specs.Number.{clauseOf}
+use Rattle.formula.specs.Formula.{pairNumber, X, P, L, W, S, transitivity, choice, choices, someStep, closedStep, firstStep, linkStep, lastStep, onRow, netSides, switchSides, offRow, rowVariables, rowClauses, rowsFrom, formula, formulaOf}
+use Rattle.formula.specs.Count.{split, variablesBefore, variableCount, clausesBefore, clauseCount, literalsBefore, literalCount}
+use Rattle.formula.specs.Formula.OnRow.{onRowCount, onRowLiterals}
+use Rattle.formula.specs.Pairs.{pairsBefore, triplesBefore}
+use Rattle.formula.specs.Number.{clauseOf}
 use Rattle.numeral.specs.Number.{digitsAt, numberAt, literalAt as wordAt}
 use Rattle.answer.specs.Lines.{lineEnd, standsAt, formFrom, formAt}
 use Rattle.answer.specs.Values.{refusedBy, keptBy, namedOne, namedFrom, complete, assigned, holding}
@@ -33,7 +33,7 @@ use Rattle.reports.specs.Reports.{numberText, switchText, shownSwitches, sinkTe
 use Rattle.reporting.specs.Report.{reportText}
 use Rattle.text.specs.Decimal.{digits as numeral, decimal}
 use Rattle.text.specs.Text.{literalText, literalsText, lineText}
-use Rattle.dimacs.specs.File.{headText, bodyText, fileText}
+use Rattle.size.specs.File.{headText, bodyText, fileText}
 
 -- what is computed, and what document 01 states
 pub record Row : Type 0 where

@@ -2,8 +2,8 @@
 use mathlib.Core.List.{List, _∷_, _++_}
 use Prim.Native.Nat.{ℕ}
 use Rattle.request.specs.declared.Request.{Request}
-use Rattle.dimacs.specs.declared.Answer.{Answer}
-use Rattle.dimacs.specs.declared.Answer.the-variants.{Bytes, Refused}
+use Rattle.size.specs.declared.Answer.{Answer}
+use Rattle.size.specs.declared.Answer.the-variants.{Bytes, Refused}
 use Rattle.network.specs.declared.Network.{Network}
 use Rattle.settle.specs.declared.Verdict.{Verdict}
 use Rattle.settle.specs.declared.Verdict.the-variants.{Least, Works, Fails, Refused as settleRefused}

@@ -1,19 +1,19 @@
 // The entries that a host in C or C++ calls: numbers and slices in, a number out, 0 for "taken", "none" or "least". A slice passes as
 // a pointer and a length, an array as a pointer. On a refusal the number behind size or length stands; count, number and network are
 // always written.
-use dimacs::Answer;
 use network::Network;
 use refutation::Outcome;
 use request::Request;
 use settle::Verdict;
+use size::Answer;
 ghost use mathlib.Core.Path.{_≡_};
 ghost use mathlib.Core.List.{_∷_, _++_};
 ghost use lib.ListN.{length};
-ghost use Rattle.dimacs.specs.File.{numberOf, sizeAnswer, writeAnswer, fileWritten};
+ghost use Rattle.size.specs.File.{numberOf, sizeAnswer, writeAnswer, fileWritten};
 ghost use Rattle.answer.specs.Reading.{readingOf};
 ghost use Rattle.encoding.specs.Encoding.{FileMeans};
 ghost use Rattle.cnf.specs.Cnf.{Satisfiable};
-ghost use Rattle.clauses.specs.Formula.{formulaOf};
+ghost use Rattle.formula.specs.Formula.{formulaOf};
 ghost use Rattle.refutation.specs.Refutation.{lent, outcomeNumber, checkAnswer, checkLeaves};
 ghost use Rattle.settle.specs.Settle.{verdictNumber, settlement, settleLeaves, LeastFor};
 ghost use Rattle.host.specs.Entries.{asked, bytesOr, verdictCode, networkBytes};
@@ -24,7 +24,7 @@ pub extern "C" fn nk_file_size(n: u8, table: u16, r: u8, m: u8, size: &mut u64) 
     ensures refusal { λ x. ⌜ x ≡ numberOf (sizeAnswer (asked n table r m)) ⌝ }
     ensures size { λ _. ⌜ now (size .exit) ≡ bytesOr (now (size .entry)) (sizeAnswer (asked n table r m)) ⌝ }
 {
-    match dimacs::file_size(Request { n, table, r, m }) {
+    match size::file_size(Request { n, table, r, m }) {
         Answer::Bytes(k) => {
             *size = k as u64;
             0

@@ -8,8 +8,8 @@ use lib.ListN.{length, drop}
 use Rattle.prelude.specs.Blocks.{flatten, pairsFrom}
 use Rattle.prelude.specs.Written.{written}
 use Rattle.request.specs.declared.Request.{Request}
-use Rattle.clauses.specs.Formula.{formulaOf}
-use Rattle.clauses.specs.Count.{variableCount}
+use Rattle.formula.specs.Formula.{formulaOf}
+use Rattle.formula.specs.Count.{variableCount}
 use Rattle.store.specs.Store.{signs, storeRefusal}
 use Rattle.lrat.specs.Bytes.{zeros}
 use Rattle.lrat.specs.Check.{Left, linesOf}

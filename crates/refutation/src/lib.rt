@@ -17,7 +17,7 @@ ghost use lib.IntN.{pos};
 ghost use lib.ListN.{length, getD};
 ghost use Rattle.prelude.specs.Signed.{isNegative, variable};
 ghost use Rattle.cnf.specs.Cnf.{Satisfiable};
-ghost use Rattle.clauses.specs.Formula.{formulaOf};
+ghost use Rattle.formula.specs.Formula.{formulaOf};
 ghost use Rattle.numeral.specs.Number.{byteAt, numberAt, literalAt};
 ghost use Rattle.lrat.specs.Rules.{minusOf};
 ghost use Rattle.lrat.specs.Words.{plainAt, literalsAt, idsAt, runAt, deletionAt, additionAt};

@@ -8,6 +8,7 @@ ghost use mathlib.Core.List.{[], _∷_, _++_};
 ghost use Prim.Native.Nat.{_+_, _*_, _≤_, _<_};
 ghost use lib.ListN.{length};
 ghost use Rattle.prelude.specs.Blocks.{each};
+ghost use Rattle.text.specs.Decimal.{decimal};
 ghost use Rattle.reports.specs.Texts.{shown, Added};
 ghost use Rattle.reports.specs.Reports.{numberText, switchText, shownSwitches, networkText, refusedText, failsText, worksText, leastText};
 
@@ -54,19 +55,27 @@ fn put_word(t: Text, word: &[u8]) -> Text
     u
 }
 
+// The digits of a number at the end of a text.
+fn put_decimal(t: Text, x: u8) -> Text
+    requires { ⌜ t .count + 3 ≤ 160 ⌝ }
+    ensures { λ u. ⌜ Added t (decimal x) 3 u ⌝ }
+{
+    if x < 10 {
+        return put(t, 48 + x);
+    }
+    let tens = x / 10;
+    if tens < 10 {
+        return put(put(t, 48 + tens), 48 + x % 10);
+    }
+    put(put(put(t, 48 + tens / 10), 48 + tens % 10), 48 + x % 10)
+}
+
 // A number, and a byte after it, at the end of a text.
 fn put_number(t: Text, x: u8, after: u8) -> Text
     requires { ⌜ t .count + 4 ≤ 160 ⌝ }
     ensures { λ u. ⌜ Added t (numberText x after) 4 u ⌝ }
 {
-    let mut bytes = t.bytes;
-    let at = t.count;
-    let end = text::put_decimal(&mut bytes, at, x as u32);
-    bytes[end] = after;
-    Text {
-        bytes: bytes,
-        count: end + 1,
-    }
+    put(put_decimal(t, x), after)
 }
 
 // The line of switch s at the end of a text.

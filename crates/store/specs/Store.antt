@@ -13,8 +13,8 @@ use Rattle.cnf.specs.Cnf.{signedOf}
 use Rattle.cnf.specs.declared.Literal.{Literal}
 use Rattle.request.specs.Numbers.{Good, refusalOf}
 use Rattle.request.specs.declared.Request.{Request}
-use Rattle.clauses.specs.Formula.{formulaOf}
-use Rattle.clauses.specs.Count.{clauseCount, literalCount}
+use Rattle.formula.specs.Formula.{formulaOf}
+use Rattle.formula.specs.Count.{clauseCount, literalCount}
 pub mod Laws
 
 -- literals as "32-bit signed literals"

@@ -2,8 +2,8 @@
 //
 // The store is two lent slices: the literals of all clauses, one clause after the other, as signed numbers, and for each clause a
 // pair of offset and length in entries. What stands past T literals and 2C numbers stays. A refusal writes nothing.
-use clauses::Clause;
 use cnf::Literal;
+use formula::Clause;
 use request::Request;
 ghost use mathlib.Core.Path.{_≡_};
 ghost use mathlib.Core.List.{List, [], _∷_, map};
@@ -12,17 +12,26 @@ ghost use lib.ListN.{length};
 ghost use lib.IntN.{ℤ};
 ghost use Rattle.prelude.specs.Written.{written};
 ghost use Rattle.cnf.specs.Cnf.{signedOf};
-ghost use Rattle.clauses.specs.Clause.{run, literalsOf};
+ghost use Rattle.formula.specs.Clause.{run, literalsOf};
 ghost use Rattle.prelude.specs.Blocks.{flatten, pairsFrom};
-ghost use Rattle.clauses.specs.Formula.{formulaOf};
+ghost use Rattle.formula.specs.Formula.{formulaOf};
 ghost use Rattle.store.specs.Store.{signs, Low, storeRefusal, storedLiterals, storedPairs, Roomy};
+
+// The signed number of a literal. A request's variables are far below the bound.
+fn signed(literal: Literal) -> i32
+    requires { ⌜ literal .variable < 1000000 ⌝ }
+    ensures { λ x. ⌜ x ≡ signedOf literal ⌝ }
+{
+    let x = literal.variable as i32;
+    if literal.negative { -x } else { x }
+}
 
 // Stores one literal; the place after it.
 fn put(literals: &mut [i32], at: usize, x: Literal) -> usize
     requires { ⌜ (x .variable ≤ 10000) × (at < length (now literals)) ⌝ }
     ensures { λ k. ⌜ (k ≡ at + 1) × (now (literals .exit) ≡ written (now (literals .entry)) at (signedOf x ∷ [])) ⌝ }
 {
-    literals[at] = cnf::signed(x);
+    literals[at] = signed(x);
     at + 1
 }
 

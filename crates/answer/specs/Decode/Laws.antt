@@ -12,9 +12,9 @@ use lib.Seq.{set-at}
 use Rattle.prelude.specs.Tests.{T-of, or-l, or-r, or-cases}
 use Rattle.prelude.specs.Lists.{tab}
 use Rattle.prelude.specs.Lists.Laws.{length-tab, getD-tab, tab-more, first-is, first-none}
-use Rattle.clauses.specs.Formula.{terminals, X, L}
-use Rattle.clauses.specs.Named.{joinedNumber, chosenNumber}
-use Rattle.clauses.specs.Named.Laws.{joined-there, chosen-there}
+use Rattle.formula.specs.Formula.{terminals, X, L}
+use Rattle.formula.specs.Named.{joinedNumber, chosenNumber}
+use Rattle.formula.specs.Named.Laws.{joined-there, chosen-there}
 use Rattle.answer.specs.Decode.{lowest, literalFor, labelFor}
 use Rattle.answer.specs.Values.{assigned}
 

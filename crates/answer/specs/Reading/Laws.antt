@@ -13,14 +13,14 @@ use Rattle.request.specs.declared.Request.{Request}
 use Rattle.network.specs.declared.Network.{Network}
 use Rattle.request.specs.Numbers.{Good}
 use Rattle.request.specs.Numbers.Laws.{refusal-good}
-use Rattle.clauses.specs.Count.{sizesOf}
-use Rattle.clauses.specs.Count.Laws.{sizes-refusal, sizes-taken}
-use Rattle.clauses.specs.Formula.{P}
-use Rattle.clauses.specs.Formula.Bounds.{pairs-most, chosen-most}
-use Rattle.clauses.specs.Named.{networkVariables}
-use Rattle.clauses.specs.Named.Laws.{variables-there}
-use Rattle.clauses.specs.declared.count.Sizes.{Sizes}
-use Rattle.clauses.specs.Formula.{transitivity, choices}
+use Rattle.formula.specs.Count.{sizesOf}
+use Rattle.formula.specs.Count.Laws.{sizes-refusal, sizes-taken}
+use Rattle.formula.specs.Formula.{P}
+use Rattle.formula.specs.Formula.Bounds.{pairs-most, chosen-most}
+use Rattle.formula.specs.Named.{networkVariables}
+use Rattle.formula.specs.Named.Laws.{variables-there}
+use Rattle.formula.specs.declared.Sizes.{Sizes}
+use Rattle.formula.specs.Formula.{transitivity, choices}
 use Rattle.answer.specs.Values.{kept, namedFrom, complete, assigned, holding}
 use Rattle.answer.specs.Decode.{decoded}
 use Rattle.answer.specs.Reading.{line, gave, passed, valued, lineStep, linesFrom, refusedWith, ended, readingOf}

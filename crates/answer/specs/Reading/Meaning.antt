@@ -19,10 +19,10 @@ use Rattle.network.specs.declared.Network.{Network}
 use Rattle.network.specs.Networks.{FormedAs, literalAt, labelAt}
 use Rattle.network.specs.Check.{labelIn, listed, fitting}
 use Rattle.network.specs.Check.Laws.{literals-below, labels-right, listed-literal, listed-label, form-right}
-use Rattle.clauses.specs.Count.{variableCount}
-use Rattle.clauses.specs.Formula.{X, L, transitivity, choices, formulaOf}
-use Rattle.clauses.specs.Number.{clauseOf}
-use Rattle.clauses.specs.Number.Laws.{clause-good, in-nets, in-choices}
+use Rattle.formula.specs.Count.{variableCount}
+use Rattle.formula.specs.Formula.{X, L, transitivity, choices, formulaOf}
+use Rattle.formula.specs.Number.{clauseOf}
+use Rattle.formula.specs.Number.Laws.{clause-good, in-nets, in-choices}
 use Rattle.answer.specs.Values.{kept, complete, assigned, holding}
 use Rattle.answer.specs.Decode.{labelFor, decoded}
 use Rattle.answer.specs.Decode.Meaning.{label-joined, literal-is, decoded-literal, decoded-label, decoded-formed}

@@ -13,9 +13,9 @@ use Rattle.prelude.specs.Lists.{allFrom, Each}
 use Rattle.prelude.specs.Lists.Laws.{all-in, all-out, each-out}
 use Rattle.cnf.specs.Cnf.{Assignment, Clause, pos, literalHolds, clauseHolds}
 use Rattle.cnf.specs.declared.Literal.{Literal}
-use Rattle.clauses.specs.Clause.{run}
-use Rattle.clauses.specs.Clause.Laws.{run-length, run-at}
-use Rattle.clauses.specs.Number.{clauseOf}
+use Rattle.formula.specs.Clause.{run}
+use Rattle.formula.specs.Clause.Laws.{run-length, run-at}
+use Rattle.formula.specs.Number.{clauseOf}
 use Rattle.request.specs.declared.Request.{Request}
 use Rattle.numeral.specs.declared.Word.{Word}
 use Rattle.numeral.specs.Number.{byteAt, literalAt}

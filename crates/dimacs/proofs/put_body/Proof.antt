@@ -4,12 +4,12 @@ use Prim.Native.Nat.{_+_, _-_, _≤_}
 use native.Mathlib.Omega.{arith}
 use lib.ListN.{length, take}
 use Rattle.cnf.specs.Cnf.{Formula}
-use Rattle.clauses.specs.Formula.{formulaOf}
-use Rattle.clauses.specs.Number.Laws.{clause-low}
+use Rattle.formula.specs.Formula.{formulaOf}
+use Rattle.formula.specs.Number.Laws.{clause-low}
 use Rattle.text.specs.Text.{lineText}
 use Rattle.prelude.specs.Written.Laws.{Wrote, wrote-none, wrote-next}
-use Rattle.dimacs.specs.File.{bodyText}
-use Rattle.dimacs.specs.File.Laws.{body-none, body-room, line-more, lines-length, lines-all}
+use Rattle.size.specs.File.{bodyText}
+use Rattle.size.specs.File.Laws.{body-none, body-room, line-more, lines-length, lines-all}
 use borrow.Author.Needs.{needs}
 use Rattle.dimacs.proofs.put_body.Statement.{statement}
 use Rattle.dimacs.proofs.put_body.Tie as tie

@@ -3,7 +3,7 @@ use mathlib.Core.Path.{_≡_, _∙_}
 use Prim.Native.Nat.{_≤_}
 use native.Mathlib.Omega.{arith}
 use lib.ListN.{length, length-set}
-use Rattle.dimacs.specs.File.Laws.{head-length, head-wrote}
+use Rattle.size.specs.File.Laws.{head-length, head-wrote}
 use Rattle.dimacs.proofs.put_head.Statement.{statement}
 use Rattle.dimacs.proofs.put_head.Tie as tie
 

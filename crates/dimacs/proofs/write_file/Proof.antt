@@ -1,73 +1,75 @@
 -- `dimacs::write_file` meets its contract: the lines are written where the head ended, in a buffer that has room for both; another buffer
 -- stays. Assumes nothing.
-use mathlib.Core.Path.{_≡_}
-use Prim.Native.Nat.{_+_}
+use mathlib.Core.Path.{_≡_, refl, sym, _∙_}
 use native.Mathlib.Omega.{arith}
 use lib.ListN.{length}
-use Rattle.dimacs.specs.File.{fileText}
-use Rattle.dimacs.specs.File.Laws.{sizes-refusal, Counted, sizes-counted, file-length, write-refused, file-refused, write-short, file-short, write-long, file-wrote}
-use Rattle.dimacs.specs.File.Means.{answer-means}
+use Rattle.request.specs.Numbers.{refusalOf}
+use Rattle.formula.specs.Count.{sizesOf}
+use Rattle.size.specs.File.{fileText}
+use Rattle.size.specs.File.Laws.{Counted, counted-good, size-taken, size-refusal, file-length, write-refused, file-refused, write-short, file-short, write-long, file-wrote}
+use Rattle.dimacs.specs.Means.{answer-means}
 use borrow.Author.Needs.{needs}
 use Rattle.dimacs.proofs.write_file.Statement.{statement}
 use Rattle.dimacs.proofs.write_file.Tie as tie
 
-count-requires : tie.Need-count-requires
-count-requires c κs = search needs
+file-size-requires : tie.Need-file-size-requires
+file-size-requires c κs = search needs
+
+enum-known-x : tie.Need-enum-known-x
+enum-known-x c = search needs
+
+enum-known-total : tie.Need-enum-known-total
+enum-known-total c = search needs
+
+-- where a size is given the request is good, and the size is the file's length
+taken : (c : tie.After-total)
+    → (refusalOf (c .before .before .before .before .args .q) ≡ 0) × (c .total .given .0 .0 ≡ length (fileText (c .before .before .before .before .args .q)))
+taken c = size-taken (c .before .before .before .before .args .q) (sym (c .total .given .1) ∙ c .before .before .file-size .ensures .0)
 
 returns : tie.Need-returns
 returns c =
     let n = c .before .before in
-    let s = n .before .before in
-    let q = s .args .q in
-    let e = sizes-refusal q (n .count .ensures) in
-    let w = write-refused q e (c .if1 .taken) (length (s .args .buffer .now)) in
-    (w, (file-refused q e (c .if1 .taken) (s .args .buffer .now), answer-means q _ _ w))
-
--- past the test the request is good, and its V and C are at hand
-counted : (c : tie.Else1) → Counted (c .before .before .before .before .args .q) (c .before .before .count .result)
-counted c = sizes-counted (c .before .before .before .before .args .q) (c .before .before .count .ensures) (c .if1 .left)
-
--- the total is the file's length
-total : (c : tie.After-body-length)
-    → c .before .head-length .result + c .body-length .result ≡ length (fileText (c .before .before .before .before .before .before .args .q))
-total c =
-    file-length (c .before .before .before .before .before .before .args .q) (counted (c .before .before))
-    (c .before .head-length .ensures .0) (c .body-length .ensures .0)
-
-head-length-requires : tie.Need-head-length-requires
-head-length-requires c κs = search needs
-
-body-length-requires : tie.Need-body-length-requires
-body-length-requires c κs = let g = counted (c .before) in (g .good, g .clauses-are)
-
-add-total : tie.Need-add-total
-add-total c = search needs
-
-returns-2 : tie.Need-returns-2
-returns-2 c =
-    let b = c .before in
-    let g = counted (b .before .before) in
-    let a = b .before .before .before .before .before .before .args in
-    let t = total b in
+    let a = n .before .before .before .before .args in
+    let t = taken n in
+    let g = counted-good (a .q) {x = sizesOf (a .q)} refl (t .0) in
     let w = write-short (a .q) g {room = length (a .buffer .now)} (omega arith) in
     (w, (file-short (a .q) g (a .buffer .now) (omega arith), answer-means (a .q) _ _ w))
 
+count-requires : tie.Need-count-requires
+count-requires c κs = search needs
+
+-- its V and C
+counted : (c : tie.After-count) → Counted (c .before .before .before .before .before .before .before .args .q) (c .count .result)
+counted c = counted-good (c .before .before .before .before .before .before .before .args .q) (c .count .ensures) (taken (c .before .before .before) .0)
+
 put-head-requires : tie.Need-put-head-requires
 put-head-requires c κs =
-    let b = c .before .before in
-    let t = total b in
-    omega (arith, b .before .head-length .ensures .0)
+    let n = c .before in
+    let q = n .before .before .before .before .before .before .before .args .q in
+    let t = taken (n .before .before .before) in
+    let l = file-length q (counted n) refl refl in
+    omega (arith, n .before .if1 .left)
 
 put-body-requires : tie.Need-put-body-requires
 put-body-requires c κs =
     let p = c .before .before .before in
-    let b = p .before .before .before in
-    let h = b .before in
-    let g = counted (h .before) in (
+    let n = p .before .before in
+    let q = n .before .before .before .before .before .before .before .args .q in
+    let t = taken (n .before .before .before) in
+    let g = counted n in
+    let l = file-length q g refl refl in (
       g .good,
       g .clauses-are,
-      omega (arith, p .put-head .ensures .0, p .put-head .kept .0, p .before .before .if2 .left, h .head-length .ensures .0, b .body-length .ensures .0),
+      omega (arith, p .put-head .ensures .0, p .put-head .kept .0, n .before .if1 .left),
     )
+
+returns-2 : tie.Need-returns-2
+returns-2 c =
+    let n = c .before in
+    let a = n .before .before .before .before .args in
+    let r = size-refusal (a .q) (sym (n .x .given .1) ∙ n .before .before .file-size .ensures .0) in
+    let w = write-refused (a .q) (r .0) (r .1) (length (a .buffer .now)) in
+    (w, (file-refused (a .q) (r .0) (r .1) (a .buffer .now), answer-means (a .q) _ _ w))
 
 same-length : tie.Need-same-length
 same-length c = search needs
@@ -76,25 +78,25 @@ returns-3 : tie.Need-returns-3
 returns-3 c =
     let w = c .before .before in
     let p = w .before .before .before .before in
-    let b = p .before .before .before in
-    let a = b .before .before .before .before .before .before .args in
-    let g = counted (b .before .before) in
-    let t = total b in
-    let r = p .before .before .if2 .left in
-    let x = write-long (a .q) g {room = length (a .buffer .now)} (omega arith) t in
-    (x, (file-wrote (a .q) g (a .buffer .now) (omega arith) (p .put-head .ensures) (w .put-body .ensures), answer-means (a .q) _ _ x))
+    let n = p .before .before in
+    let a = n .before .before .before .before .before .before .before .args in
+    let t = taken (n .before .before .before) in
+    let r = n .before .if1 .left in
+    let x = write-long (a .q) (counted n) {room = length (a .buffer .now)} (omega arith) (t .1) in
+    let b = file-wrote (a .q) (counted n) (a .buffer .now) (omega arith) (p .put-head .ensures) (w .put-body .ensures) in
+    (x, (b, answer-means (a .q) _ _ x))
 
 pub write-file-spec : {M : Type 1} → statement M
 write-file-spec =
     tie.close
     (tie.spec
-    count-requires
+    file-size-requires
+    enum-known-x
+    enum-known-total
     returns
-    head-length-requires
-    body-length-requires
-    add-total
-    returns-2
+    count-requires
     put-head-requires
     put-body-requires
+    returns-2
     same-length
     returns-3)

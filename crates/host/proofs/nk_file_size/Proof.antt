@@ -1,5 +1,5 @@
 -- The answer is a length or a refusal; either is handed on as a number. Assumes nothing.
-use Rattle.dimacs.specs.File.{numberOf}
+use Rattle.size.specs.File.{numberOf}
 use Rattle.host.specs.Entries.{bytesOr}
 use mathlib.Core.Path.{sym, ap, _∙_}
 use borrow.Author.Needs.{needs}

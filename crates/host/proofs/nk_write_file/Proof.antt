@@ -1,6 +1,6 @@
 -- The answer is a length or a refusal; either is handed on as a number, and the buffer is as the writer leaves it. Assumes nothing.
-use Rattle.dimacs.specs.File.{numberOf}
-use Rattle.dimacs.specs.File.Means.{number-means}
+use Rattle.size.specs.File.{numberOf}
+use Rattle.dimacs.specs.Means.{number-means}
 use Rattle.host.specs.Entries.{bytesOr}
 use mathlib.Core.Path.{sym, ap, _∙_}
 use lib.ListN.{length}

@@ -12,11 +12,11 @@ use Rattle.cnf.specs.Cnf.{Satisfiable}
 use Rattle.request.specs.declared.Request.{Request}
 use Rattle.request.specs.Numbers.{Good, refusalOf}
 use Rattle.request.specs.Numbers.Laws.{refusal-good}
-use Rattle.clauses.specs.Formula.{formulaOf}
-use Rattle.clauses.specs.Formula.Range.{range, variables-most}
-use Rattle.clauses.specs.Count.{variableCount, clauseCount, literalCount, sizesOf}
-use Rattle.clauses.specs.Count.Laws.{clause-count, literal-count, sizes-taken, sizes-refusal}
-use Rattle.clauses.specs.declared.count.Sizes.{Sizes}
+use Rattle.formula.specs.Formula.{formulaOf}
+use Rattle.formula.specs.Formula.Range.{range, variables-most}
+use Rattle.formula.specs.Count.{variableCount, clauseCount, literalCount, sizesOf}
+use Rattle.formula.specs.Count.Laws.{clause-count, literal-count, sizes-taken, sizes-refusal}
+use Rattle.formula.specs.declared.Sizes.{Sizes}
 use Rattle.store.specs.Store.{signs, storeRefusal, storedLiterals, storedPairs}
 use Rattle.store.specs.Store.Laws.{refusal-request, refusal-literals, refusal-pairs, refusal-none, store-taken}
 use Rattle.lrat.specs.Bytes.{zeros, held}

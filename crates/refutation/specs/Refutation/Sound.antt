@@ -9,8 +9,8 @@ use borrow.Author.Tests.{eq-eqb, ne-eqb}
 use Rattle.prelude.specs.Tests.{eq?}
 use Rattle.cnf.specs.Cnf.{Satisfiable}
 use Rattle.request.specs.declared.Request.{Request}
-use Rattle.clauses.specs.Formula.{formulaOf}
-use Rattle.clauses.specs.Count.{variableCount}
+use Rattle.formula.specs.Formula.{formulaOf}
+use Rattle.formula.specs.Count.{variableCount}
 use Rattle.lrat.specs.Check.Laws.{lines-coded}
 use Rattle.lrat.specs.Check.Sound.{none-sound}
 use Rattle.refutation.specs.declared.Outcome.the-variants.{None, Refused}

@@ -1,18 +1,23 @@
--- Laws of the report's lines: how long a number is. Assumes nothing.
-use mathlib.Core.Path.{_≡_}
-use mathlib.Core.List.{[], _∷_}
-use Prim.Native.Nat.{ℕ, _≤_, _<_, _+_}
+-- Laws of the report's lines: the digits of a number below 1,000. Assumes nothing.
+use mathlib.Core.Path.{_≡_, ap, _∙_}
+use mathlib.Core.List.{List, [], _∷_, _++_}
+use Prim.Native.Nat.{ℕ, _+_, _/_, _%_, _≤_, _<_}
 use native.Mathlib.Omega.{arith}
-use lib.ListN.{length, length-append}
 use Rattle.text.specs.Decimal.{decimal}
-use Rattle.text.specs.Decimal.Laws.{length-high}
-use Rattle.reports.specs.Reports.{numberText}
+use Rattle.text.specs.Decimal.Laws.{decimal-digit, decimal-more}
 
--- a byte has three digits at most
-pub numeral-short : (x : ℕ) → x < 256 → length (decimal x) ≤ 3
-numeral-short x h = length-high 2 x (omega arith)
+-- one digit
+pub digit-one : (x : ℕ) → x < 10 → decimal x ≡ (48 + x) ∷ []
+digit-one x h = let e : x % 10 ≡ x = omega arith in decimal-digit x h ∙ ap (λ (k : ℕ). (48 + k) ∷ []) e
 
--- and a number with the byte after it is one byte longer
-pub number-length : (x after : ℕ) → length (numberText x after) ≡ length (decimal x) + 1
-unfolding numberText
-number-length x after = length-append (decimal x) (after ∷ [])
+-- the last digit after those of the tenth
+digit-last : (x : ℕ) (l : List ℕ) → 10 ≤ x → decimal (x / 10) ≡ l → decimal x ≡ l ++ ((48 + x % 10) ∷ [])
+digit-last x l h e = decimal-more x h ∙ ap (λ (k : List ℕ). k ++ ((48 + x % 10) ∷ [])) e
+
+-- two digits
+pub digits-two : (x : ℕ) → 10 ≤ x → x / 10 < 10 → decimal x ≡ (48 + x / 10) ∷ (48 + x % 10) ∷ []
+digits-two x h l = digit-last x ((48 + x / 10) ∷ []) h (digit-one (x / 10) l)
+
+-- three digits
+pub digits-three : (x : ℕ) → 10 ≤ x / 10 → x < 1000 → decimal x ≡ (48 + x / 10 / 10) ∷ (48 + x / 10 % 10) ∷ (48 + x % 10) ∷ []
+digits-three x h l = digit-last x ((48 + x / 10 / 10) ∷ (48 + x / 10 % 10) ∷ []) (omega arith) (digits-two (x / 10) h (omega arith))

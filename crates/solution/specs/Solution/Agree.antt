@@ -14,10 +14,10 @@ use Rattle.prelude.specs.Lists.Laws.{each-out}
 use Rattle.cnf.specs.Cnf.{Assignment, Clause, Formula, clauseHolds, Sat}
 use Rattle.request.specs.declared.Request.{Request}
 use Rattle.request.specs.Numbers.{Good}
-use Rattle.clauses.specs.Formula.{terminals, X, L, transitivity, choices, formula, formulaOf}
-use Rattle.clauses.specs.Formula.Range.{ClauseIn, joined-in, chosen-in, transitivity-in, choices-in}
-use Rattle.clauses.specs.Number.{clauseOf}
-use Rattle.clauses.specs.Number.Laws.{clause-good, in-nets, in-choices}
+use Rattle.formula.specs.Formula.{terminals, X, L, transitivity, choices, formula, formulaOf}
+use Rattle.formula.specs.Formula.Range.{ClauseIn, joined-in, chosen-in, transitivity-in, choices-in}
+use Rattle.formula.specs.Number.{clauseOf}
+use Rattle.formula.specs.Number.Laws.{clause-good, in-nets, in-choices}
 use Rattle.answer.specs.Values.{kept}
 use Rattle.answer.specs.Decode.{lowest, literalFor, labelFor, decoded}
 use Rattle.answer.specs.Decode.Meaning.{Sat-split}

@@ -11,9 +11,9 @@ use Rattle.cnf.specs.Cnf.{Assignment, Sat}
 use Rattle.request.specs.declared.Request.{Request}
 use Rattle.request.specs.Numbers.{Good, refusalOf}
 use Rattle.request.specs.Numbers.Laws.{refusal-good}
-use Rattle.clauses.specs.Count.{variablesBefore, variableCount}
-use Rattle.clauses.specs.Formula.{transitivity, choices, formulaOf}
-use Rattle.clauses.specs.Formula.Range.{variables-most}
+use Rattle.formula.specs.Count.{variablesBefore, variableCount}
+use Rattle.formula.specs.Formula.{transitivity, choices, formulaOf}
+use Rattle.formula.specs.Formula.Range.{variables-most}
 use Rattle.numeral.specs.Number.{byteAt}
 use Rattle.text.specs.Text.{lineText}
 use Rattle.answer.specs.Lines.{standsAt, solutionLine, formed}

@@ -14,11 +14,11 @@ use Rattle.prelude.specs.Written.{written}
 use Rattle.prelude.specs.Written.Laws.{written-none}
 use Rattle.cnf.specs.Cnf.{Clause, Formula}
 use Rattle.request.specs.declared.Request.{Request}
-use Rattle.clauses.specs.Formula.{formulaOf}
-use Rattle.clauses.specs.Count.{clauseCount}
-use Rattle.clauses.specs.Count.Laws.{clause-count, literal-count}
-use Rattle.clauses.specs.Number.{clauseOf}
-use Rattle.clauses.specs.Number.Laws.{clause-good, clause-low}
+use Rattle.formula.specs.Formula.{formulaOf}
+use Rattle.formula.specs.Count.{clauseCount}
+use Rattle.formula.specs.Count.Laws.{clause-count, literal-count}
+use Rattle.formula.specs.Number.{clauseOf}
+use Rattle.formula.specs.Number.Laws.{clause-good, clause-low}
 use Rattle.store.specs.Store.{signs, Low, Roomy}
 use Rattle.store.specs.Store.Laws.{signs-more}
 use Rattle.store.proofs.fill.Statement.{statement}

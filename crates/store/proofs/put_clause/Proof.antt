@@ -8,10 +8,10 @@ use lib.ListN.{length}
 use borrow.Author.Needs.{needs}
 use Rattle.prelude.specs.Written.{written}
 use Rattle.cnf.specs.declared.Literal.{Literal}
-use Rattle.clauses.specs.Clause.{run, literalsOf}
-use Rattle.clauses.specs.Clause.Laws.{run-length}
-use Rattle.clauses.specs.declared.Clause.{Clause}
-use Rattle.clauses.specs.declared.Clause.the-variants.{Run, One, Two, Three}
+use Rattle.formula.specs.Clause.{run, literalsOf}
+use Rattle.formula.specs.Clause.Laws.{run-length}
+use Rattle.formula.specs.declared.Clause.{Clause}
+use Rattle.formula.specs.declared.Clause.the-variants.{Run, One, Two, Three}
 use Rattle.store.specs.Store.{signs, Low}
 use Rattle.store.specs.Store.Laws.{signs-more}
 use Rattle.store.proofs.put_clause.Statement.{statement}

@@ -11,8 +11,8 @@ use Rattle.prelude.specs.Written.{written}
 use Rattle.prelude.specs.Written.Laws.{written-none}
 use Rattle.cnf.specs.Cnf.{pos, signedOf}
 use Rattle.cnf.specs.declared.Literal.{Literal}
-use Rattle.clauses.specs.Clause.{run}
-use Rattle.clauses.specs.Clause.Laws.{run-none, run-more, run-length, run-at}
+use Rattle.formula.specs.Clause.{run}
+use Rattle.formula.specs.Clause.Laws.{run-none, run-more, run-length, run-at}
 use Rattle.store.specs.Store.{signs, Low}
 use Rattle.store.specs.Store.Laws.{signs-more}
 use Rattle.store.proofs.put_run.Statement.{statement}

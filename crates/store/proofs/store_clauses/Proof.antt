@@ -11,10 +11,10 @@ use Rattle.prelude.specs.Written.{written}
 use Rattle.request.specs.Numbers.{refusalOf}
 use Rattle.request.specs.Numbers.Laws.{refusal-good}
 use Rattle.request.specs.declared.Request.{Request}
-use Rattle.clauses.specs.Formula.{formulaOf}
-use Rattle.clauses.specs.Count.{clauseCount, literalCount, sizesOf}
-use Rattle.clauses.specs.Count.Laws.{sizes-taken, sizes-refusal}
-use Rattle.clauses.specs.declared.count.Sizes.{Sizes}
+use Rattle.formula.specs.Formula.{formulaOf}
+use Rattle.formula.specs.Count.{clauseCount, literalCount, sizesOf}
+use Rattle.formula.specs.Count.Laws.{sizes-taken, sizes-refusal}
+use Rattle.formula.specs.declared.Sizes.{Sizes}
 use Rattle.store.specs.Store.{signs, storeRefusal, storedLiterals, storedPairs, Roomy}
 use Rattle.store.specs.Store.Laws.{refusal-request, refusal-literals, refusal-pairs, refusal-none, store-refused, store-taken}
 use Rattle.store.proofs.store_clauses.Statement.{statement}

@@ -15,8 +15,8 @@ use Rattle.prelude.specs.Written.Laws.{written-append}
 use Rattle.cnf.specs.Cnf.{signedOf, Clause, Formula}
 use Rattle.request.specs.Numbers.{refusalOf}
 use Rattle.request.specs.declared.Request.{Request}
-use Rattle.clauses.specs.Formula.{formulaOf}
-use Rattle.clauses.specs.Count.{clauseCount, literalCount}
+use Rattle.formula.specs.Formula.{formulaOf}
+use Rattle.formula.specs.Count.{clauseCount, literalCount}
 use Rattle.store.specs.Store.{signs, storeRefusal, storedLiterals, storedPairs}
 
 -- signed literals are as many as the literals

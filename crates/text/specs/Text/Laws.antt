@@ -13,7 +13,7 @@ use Rattle.prelude.specs.Blocks.{each, flatten}
 use Rattle.prelude.specs.Blocks.Laws.{each-more, each-room, singles-length, singles-at, flatten-one}
 use Rattle.cnf.specs.Cnf.{pos}
 use Rattle.cnf.specs.declared.Literal.{Literal}
-use Rattle.clauses.specs.Clause.{run}
+use Rattle.formula.specs.Clause.{run}
 use Rattle.text.specs.Decimal.{decimal}
 use Rattle.text.specs.Text.{literalText, literalsText, lineText, Low}
 

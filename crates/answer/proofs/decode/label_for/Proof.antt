@@ -1,7 +1,7 @@
 -- No terminal below the index is joined to this one. Assumes nothing.
 use Rattle.answer.specs.Values.{assigned}
 use Rattle.answer.specs.Decode.Laws.{label-found, label-not, label-own}
-use Rattle.clauses.specs.Formula.{X}
+use Rattle.formula.specs.Formula.{X}
 use borrow.Author.Count.{below-more}
 use lib.Dec.{T, eqb}
 use mathlib.Core.Bool.{not, _||_}

@@ -1,7 +1,7 @@
 -- No literal below the index has its L true. Assumes nothing.
 use Rattle.answer.specs.Values.{assigned}
 use Rattle.answer.specs.Decode.Laws.{literal-found, literal-not, literal-none}
-use Rattle.clauses.specs.Formula.{L}
+use Rattle.formula.specs.Formula.{L}
 use borrow.Author.Count.{below-more}
 use lib.Dec.{T}
 use mathlib.Core.Bool.{not}

@@ -1,6 +1,6 @@
 -- Each branch is one of the definition. Assumes nothing.
 use Rattle.answer.specs.Reading.Laws.{ended-refused, ended-phase, ended-missing, ended-fails, ended-taken}
-use Rattle.clauses.specs.Named.Laws.{clauses-there}
+use Rattle.formula.specs.Named.Laws.{clauses-there}
 use borrow.Author.Tests.{not-true, not-false}
 use mathlib.Core.Path.{_∙_}
 use borrow.Author.Needs.{needs}

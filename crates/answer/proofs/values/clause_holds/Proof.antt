@@ -3,8 +3,8 @@ use Rattle.answer.specs.Values.{assigned}
 use Rattle.answer.specs.Values.Laws.{holds-one, holds-first, holds-next}
 use Rattle.cnf.specs.Cnf.{Assignment, clauseHolds}
 use Rattle.prelude.specs.Lists.{Each}
-use Rattle.clauses.specs.Clause.{literalsOf}
-use Rattle.clauses.specs.declared.Clause.{Clause}
+use Rattle.formula.specs.Clause.{literalsOf}
+use Rattle.formula.specs.declared.Clause.{Clause}
 use mathlib.Core.Path.{_≡_, sym, subst}
 use mathlib.Core.List.{[], _∷_}
 use mathlib.Core.Bool.{Bool}

@@ -2,8 +2,8 @@
 use Rattle.answer.specs.Values.{assigned}
 use Rattle.answer.specs.Values.Laws.{holding-not, holding-one, holding-all}
 use Rattle.cnf.specs.Cnf.{clauseHolds}
-use Rattle.clauses.specs.Number.{clauseOf}
-use Rattle.clauses.specs.Number.Laws.{clause-low}
+use Rattle.formula.specs.Number.{clauseOf}
+use Rattle.formula.specs.Number.Laws.{clause-low}
 use borrow.Author.Tests.{not-true, not-false}
 use borrow.Author.Count.{below-none, below-more}
 use mathlib.Core.Path.{_≡_}

@@ -1,5 +1,5 @@
 -- A refused request has no sizes; a good one has those of the definitions. Assumes nothing.
-use Rattle.clauses.specs.Count.{variablesBefore, variableCount, sizesOf}
+use Rattle.formula.specs.Count.{variablesBefore, variableCount, sizesOf}
 use Rattle.request.specs.Numbers.{Good, refusalOf}
 use Rattle.request.specs.Numbers.Laws.{rows-shl, rows-high, refusal-good}
 use borrow.Author.Tests.{ne-eqb}

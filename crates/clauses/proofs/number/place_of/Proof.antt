@@ -1,10 +1,12 @@
 -- Row after row is passed over while the number lies beyond it: the clauses of the rows passed and what is left make up the number.
 -- Assumes nothing.
-use Rattle.clauses.specs.Count.{split}
-use Rattle.clauses.specs.Number.Laws.{place-none, place-more, place-is}
+use Rattle.formula.specs.Count.{split}
+use Rattle.formula.specs.Number.Laws.{place-none, place-more, place-is}
 use Rattle.request.specs.Numbers.Laws.{rows-shl, rows-high}
 use Prim.Native.Nat.{_^_}
-use mathlib.Core.Path.{_≡_, subst}
+use Rattle.formula.specs.Row.Laws.{good-sized, count-is}
+use mathlib.Core.Bool.{true, false}
+use mathlib.Core.Path.{_≡_, subst, _∙_}
 use Prim.Native.Nat.{ℕ, _+_, _-_, _≤_, _<_}
 use native.Mathlib.Omega.{arith}
 use borrow.Author.Needs.{needs}
@@ -12,10 +14,10 @@ use Rattle.clauses.proofs.number.place_of.Statement.{statement}
 use Rattle.clauses.proofs.number.place_of.Tie as tie
 
 abbrev Inv-loop : tie.InvT-loop
-Inv-loop number n r on off table count k₀ rest₀ k rest = (k ≤ count) × (number ≡ split table on off k + rest)
+Inv-loop number n r m on off table count k₀ rest₀ k rest = (k ≤ count) × (number ≡ split table on off k + rest)
 
 abbrev μ-loop : tie.MeasureT-loop
-μ-loop number n r on off table count k₀ rest₀ k rest = count - k
+μ-loop number n r m on off table count k₀ rest₀ k rest = count - k
 
 cast-n : tie.Need-cast-n Inv-loop μ-loop
 cast-n c = search needs
@@ -23,14 +25,14 @@ cast-n c = search needs
 cast-r : tie.Need-cast-r Inv-loop μ-loop
 cast-r c = search needs
 
-cast-on-row-count : tie.Need-cast-on-row-count Inv-loop μ-loop
-cast-on-row-count c = search needs
+cast-m : tie.Need-cast-m Inv-loop μ-loop
+cast-m c = search needs
 
-on-row-count-requires : tie.Need-on-row-count-requires Inv-loop μ-loop
-on-row-count-requires c κs = search needs
+row-count-requires : tie.Need-row-count-requires Inv-loop μ-loop
+row-count-requires c κs = search needs
 
-off-row-count-requires : tie.Need-off-row-count-requires Inv-loop μ-loop
-off-row-count-requires c κs = search needs
+row-count-requires-2 : tie.Need-row-count-requires-2 Inv-loop μ-loop
+row-count-requires-2 c κs = search needs
 
 shl-count : tie.Need-shl-count Inv-loop μ-loop
 shl-count c = search needs
@@ -49,9 +51,10 @@ returns c =
     let l = c .before .before .before .loop in
     let before = c .before .before .before .before in
     let s = before .before .before .before .before .before in
+    let z = good-sized (s .args .q) (s .pre) in
     let shl = rows-shl (s .args .q .n) 32 (s .pre .n-high) (omega arith) in
-    place-is (s .args .q) (before .before .on-row-count .result) (before .off-row-count .result) (s .args .number) (l .k) (l .rest)
-    (before .before .on-row-count .ensures .0) (before .off-row-count .ensures .0) (omega arith) (l .inv .1)
+    place-is (s .args .q) (before .before .row-count .result) (before .row-count2 .result) (s .args .number) (l .k) (l .rest)
+    (before .before .row-count .ensures .0 ∙ count-is _ _ _ true z) (before .row-count2 .ensures .0 ∙ count-is _ _ _ false z) (omega arith) (l .inv .1)
     (λ h. subst (λ (x : ℕ). l .rest < x) (c .before .row-size .ensures) (c .if1 .taken))
 
 add-k : tie.Need-add-k Inv-loop μ-loop
@@ -70,10 +73,11 @@ returns-2 c =
     let l = c .before .loop in
     let before = c .before .before in
     let s = before .before .before .before .before .before in
+    let z = good-sized (s .args .q) (s .pre) in
     let shl = rows-shl (s .args .q .n) 32 (s .pre .n-high) (omega arith) in
     let past : 2 ^ (s .args .q .n) ≤ l .k = omega arith in
-    place-is (s .args .q) (before .before .on-row-count .result) (before .off-row-count .result) (s .args .number) (l .k) (l .rest)
-    (before .before .on-row-count .ensures .0) (before .off-row-count .ensures .0) (omega arith) (l .inv .1)
+    place-is (s .args .q) (before .before .row-count .result) (before .row-count2 .result) (s .args .number) (l .k) (l .rest)
+    (before .before .row-count .ensures .0 ∙ count-is _ _ _ true z) (before .row-count2 .ensures .0 ∙ count-is _ _ _ false z) (omega arith) (l .inv .1)
     (λ h. absurd (omega arith))
 
 pub place-of-spec : {M : Type 1} → statement M
@@ -84,9 +88,9 @@ place-of-spec =
     μ-loop
     cast-n
     cast-r
-    cast-on-row-count
-    on-row-count-requires
-    off-row-count-requires
+    cast-m
+    row-count-requires
+    row-count-requires-2
     shl-count
     loop-holds
     row-size-requires

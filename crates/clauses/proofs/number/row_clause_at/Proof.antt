@@ -1,9 +1,9 @@
 -- The place is found, then the clause is made by the kind of its row. Assumes nothing.
-use Rattle.clauses.specs.Clause.Laws.{run-none}
-use Rattle.clauses.specs.Number.Laws.{row-past, row-on-clause, row-off-clause, place-on, place-off}
+use Rattle.formula.specs.Clause.Laws.{run-none}
+use Rattle.formula.specs.Number.Laws.{row-past, row-clause-is}
 use Rattle.request.specs.Numbers.Laws.{rows-shl, rows-high}
 use Prim.Native.Nat.{_^_}
-use mathlib.Core.Path.{sym, _∙_}
+use mathlib.Core.Path.{_∙_}
 use Prim.Native.Nat.{_<_}
 use native.Mathlib.Omega.{arith}
 use borrow.Author.Needs.{needs}
@@ -50,63 +50,21 @@ cast-row-on c =
 row-on-requires : tie.Need-row-on-requires
 row-on-requires c κs = search needs
 
-cast-on-row-at : tie.Need-cast-on-row-at
-cast-on-row-at c = search needs
+cast-row-clause : tie.Need-cast-row-clause
+cast-row-clause c = search needs
 
-on-row-at-requires : tie.Need-on-row-at-requires
-on-row-at-requires c κs =
-    let r = c .before .before in
-    let v = r .before in
-    let p = v .before .before .before .before in
-    let s = p .before in
-    let g = s .pre in
-    let on = sym (r .row-on .ensures) ∙ c .before .if2 .taken in (
-      g .n-low,
-      g .n-high,
-      g .r-high,
-      g .m-high,
-      omega (arith, v .variables-before .ensures .1),
-      row-low (v .before),
-      place-on (s .args .q) g (s .args .number) (p .place-of .result .row) (p .place-of .result .rest) (p .place-of .ensures) (row-low (v .before)) on,
-    )
+row-clause-requires : tie.Need-row-clause-requires
+row-clause-requires c κs = search needs
 
 returns-2 : tie.Need-returns-2
 returns-2 c =
-    let r = c .before .before .before in
-    let v = r .before in
-    let p = v .before .before .before .before in
-    let s = p .before in
-    let on = sym (r .row-on .ensures) ∙ c .before .before .if2 .taken in
-    c .on-row-at .ensures
-    ∙ row-on-clause (s .args .q) (s .pre) (s .args .number) (p .place-of .result .row) (p .place-of .result .rest) (v .variables-before .result)
-    (p .place-of .ensures) (row-low (v .before)) on (v .variables-before .ensures .0)
-
-off-row-at-requires : tie.Need-off-row-at-requires
-off-row-at-requires c κs =
-    let r = c .before in
-    let v = r .before in
-    let p = v .before .before .before .before in
-    let s = p .before in
-    let g = s .pre in
-    let off = sym (r .row-on .ensures) ∙ c .if2 .left in (
-      g .n-low,
-      g .n-high,
-      g .r-high,
-      omega (arith, v .variables-before .ensures .1),
-      row-low (v .before),
-      place-off (s .args .q) g (s .args .number) (p .place-of .result .row) (p .place-of .result .rest) (p .place-of .ensures) (row-low (v .before)) off,
-    )
-
-returns-3 : tie.Need-returns-3
-returns-3 c =
     let r = c .before .before in
     let v = r .before in
     let p = v .before .before .before .before in
     let s = p .before in
-    let off = sym (r .row-on .ensures) ∙ c .before .if2 .left in
-    c .off-row-at .ensures
-    ∙ row-off-clause (s .args .q) (s .pre) (s .args .number) (p .place-of .result .row) (p .place-of .result .rest) (v .variables-before .result)
-    (p .place-of .ensures) (row-low (v .before)) off (v .variables-before .ensures .0)
+    c .row-clause .ensures
+    ∙ row-clause-is (s .args .q) (s .pre) (s .args .number) (p .place-of .result .row) (p .place-of .result .rest) (v .variables-before .result) (r .row-on .result)
+    (p .place-of .ensures) (row-low (v .before)) (r .row-on .ensures) (v .variables-before .ensures .0) (omega (arith, v .variables-before .ensures .1))
 
 pub row-clause-at-spec : {M : Type 1} → statement M
 row-clause-at-spec =
@@ -120,8 +78,6 @@ row-clause-at-spec =
     variables-before-requires
     cast-row-on
     row-on-requires
-    cast-on-row-at
-    on-row-at-requires
-    returns-2
-    off-row-at-requires
-    returns-3)
+    cast-row-clause
+    row-clause-requires
+    returns-2)

@@ -1,7 +1,8 @@
 -- The code is the definition; each product is bounded by a law. Assumes nothing.
-use Rattle.clauses.specs.Count.{variablesBefore, split}
-use Rattle.clauses.specs.Count.Laws.{on-most}
-use Rattle.clauses.specs.Formula.Bounds.{chosen-most, steps-most}
+use Rattle.formula.specs.Count.{variablesBefore, split}
+use Rattle.formula.specs.Count.Laws.{on-most}
+use Rattle.formula.specs.Formula.Bounds.{steps-most}
+use Rattle.formula.specs.Named.Laws.{variables-there, variables-most}
 use mathlib.Core.Path.{ap, ap₂, _∙_}
 use Prim.Native.Nat.{ℕ, _+_, _-_, _*_}
 use native.Mathlib.Omega.{arith}
@@ -24,17 +25,8 @@ cast-on-rows-below c = search needs
 on-rows-below-requires : tie.Need-on-rows-below-requires
 on-rows-below-requires c κs = search needs
 
-pair-count-requires : tie.Need-pair-count-requires
-pair-count-requires c κs = search needs
-
-mul-result : tie.Need-mul-result
-mul-result c = search needs
-
-mul-result-2 : tie.Need-mul-result-2
-mul-result-2 c = let s = c .before .before .before .before .before in omega (arith, chosen-most (s .args .q .n) (s .args .q .r) (omega arith) (omega arith))
-
-add-result : tie.Need-add-result
-add-result c = let s = c .before .before .before .before .before in omega (arith, chosen-most (s .args .q .n) (s .args .q .r) (omega arith) (omega arith))
+network-variables-requires : tie.Need-network-variables-requires
+network-variables-requires c κs = search needs
 
 sub-weighted : tie.Need-sub-weighted
 sub-weighted c =
@@ -64,12 +56,13 @@ weighted-requires c κs =
     let steps = steps-most (s .args .q .r) (s .args .q .m) (omega arith) (omega arith) in
     (omega arith, omega arith, omega arith)
 
-add-result-2 : tie.Need-add-result-2
-add-result-2 c =
+add-result : tie.Need-add-result
+add-result c =
     let s = c .before .before .before .before .before .before in
-    let steps = steps-most (s .args .q .r) (s .args .q .m) (omega arith) (omega arith) in
+    let q = s .args .q in
+    let steps = steps-most (q .r) (q .m) (omega arith) (omega arith) in
     let h = c .weighted .ensures .1 105 (omega arith) (omega arith) in
-    omega (arith, chosen-most (s .args .q .n) (s .args .q .r) (omega arith) (omega arith))
+    omega (arith, variables-most (q .n) (q .r) (omega arith) (omega arith), c .before .network-variables .ensures)
 
 returns : tie.Need-returns
 unfolding variablesBefore split
@@ -80,7 +73,8 @@ returns c =
     let steps = steps-most (q .r) (q .m) (omega arith) (omega arith) in
     let h = c .weighted .ensures .1 105 (omega arith) (omega arith) in
     let all = c .weighted .ensures .0 ∙ ap (λ (x : ℕ). x * (q .m * (2 * q .r + 1)) + (s .args .k - x) * (2 * q .r + 2)) on in
-    (ap₂ (λ (x y : ℕ). x + 2 * q .n * q .r + y) (c .before .pair-count .ensures .0) all, omega (arith, chosen-most (q .n) (q .r) (omega arith) (omega arith), c .before .pair-count .ensures .1))
+    let net = c .before .network-variables .ensures in
+    (ap₂ (λ (x y : ℕ). x + y) (net ∙ variables-there (q .n) (q .r) (omega arith) (omega arith)) all, omega (arith, variables-most (q .n) (q .r) (omega arith) (omega arith)))
 
 pub variables-before-spec : {M : Type 1} → statement M
 variables-before-spec =
@@ -91,10 +85,7 @@ variables-before-spec =
     cast-m
     cast-on-rows-below
     on-rows-below-requires
-    pair-count-requires
-    mul-result
-    mul-result-2
-    add-result
+    network-variables-requires
     sub-weighted
     mul-weighted
     add-weighted
@@ -102,5 +93,5 @@ variables-before-spec =
     mul-weighted-3
     add-weighted-2
     weighted-requires
-    add-result-2
+    add-result
     returns)

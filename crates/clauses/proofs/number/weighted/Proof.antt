@@ -1,5 +1,5 @@
 -- The sum is at most 16 times the larger. Assumes nothing.
-use Rattle.clauses.specs.Count.Laws.{weighted-most}
+use Rattle.formula.specs.Count.Laws.{weighted-most}
 use mathlib.Core.Path.{refl}
 use native.Mathlib.Omega.{arith}
 use Rattle.clauses.proofs.number.weighted.Statement.{statement}

@@ -1,0 +1,52 @@
+-- How many variables, clauses and literals a request's clauses have, by the count of on rows (document 01: "V is the number of
+-- variables, C of clauses, T of literals in all clauses"). Assumes nothing.
+use mathlib.Core.Bool.{cond}
+use lib.Dec.{eqb}
+use Prim.Native.Nat.{ℕ, _+_, _-_, _*_, _^_}
+use Rattle.rows.specs.Rows.{onBelow}
+use Rattle.request.specs.Numbers.{refusalOf}
+use Rattle.request.specs.declared.Request.{Request}
+use Rattle.formula.specs.declared.Sizes.{Sizes}
+use Rattle.formula.specs.Formula.{P, terminals}
+use Rattle.formula.specs.Formula.OnRow.{onRowCount, onRowLiterals}
+use Rattle.formula.specs.Formula.OffRow.{offRowCount, offRowLiterals}
+use Rattle.formula.specs.Pairs.{pairsBefore, triplesBefore}
+pub mod Laws
+
+-- a for each on row below row k, b for each off row
+unfoldable pub split : ℕ → ℕ → ℕ → ℕ → ℕ
+split table a b k = onBelow table k * a + (k - onBelow table k) * b
+
+-- the variables before row k: P, the 2n·r of group 2, and those of the lower rows
+unfoldable pub variablesBefore : Request → ℕ → ℕ
+variablesBefore q k = P (q .r) + 2 * q .n * q .r + split (q .table) (q .m * (2 * q .r + 1)) (terminals (q .r)) k
+
+-- the clauses of the rows below row k
+unfoldable pub clausesBefore : Request → ℕ → ℕ
+clausesBefore q k = split (q .table) (onRowCount (q .n) (q .r) (q .m)) (offRowCount (q .n) (q .r)) k
+
+-- the literals of the rows below row k
+unfoldable pub literalsBefore : Request → ℕ → ℕ
+literalsBefore q k = split (q .table) (onRowLiterals (q .n) (q .r) (q .m)) (offRowLiterals (q .n) (q .r)) k
+
+-- V
+unfoldable pub variableCount : Request → ℕ
+variableCount q = variablesBefore q (2 ^ (q .n))
+
+-- C: groups 1 and 2, and the rows
+unfoldable pub clauseCount : Request → ℕ
+clauseCount q =
+    triplesBefore (terminals (q .r)) (terminals (q .r)) * 3 + q .r * (pairsBefore (2 * q .n) (2 * q .n) + 1) + clausesBefore q (2 ^ (q .n))
+
+-- T: three literals in each clause of group 1, those of group 2, and the rows'
+unfoldable pub literalCount : Request → ℕ
+literalCount q =
+    3 * (triplesBefore (terminals (q .r)) (terminals (q .r)) * 3) + q .r * (2 * q .n + 2 * pairsBefore (2 * q .n) (2 * q .n))
+    + literalsBefore q (2 ^ (q .n))
+
+-- the refusal of a request; V, C and T where it is taken
+unfoldable pub sizesOf : Request → Sizes
+sizesOf q =
+    cond (eqb (refusalOf q) 0)
+    (record { refusal = 0; variables = variableCount q; clauses = clauseCount q; literals = literalCount q })
+    (record { refusal = refusalOf q; variables = 0; clauses = 0; literals = 0 })

@@ -1,0 +1,89 @@
+-- One law for each of the three clauses. Assumes nothing.
+use Rattle.formula.specs.Formula.Groups.{triple-first, triple-second, triple-third}
+use Rattle.formula.specs.Named.Laws.{joined-there}
+use mathlib.Core.Path.{_∙_}
+use native.Mathlib.Omega.{arith}
+use borrow.Author.Needs.{needs}
+use Rattle.groups.proofs.triple_clause.Statement.{statement}
+use Rattle.groups.proofs.triple_clause.Tie as tie
+
+joined-number-requires : tie.Need-joined-number-requires
+joined-number-requires c κs = search needs
+
+joined-number-requires-2 : tie.Need-joined-number-requires-2
+joined-number-requires-2 c κs = search needs
+
+joined-number-requires-3 : tie.Need-joined-number-requires-3
+joined-number-requires-3 c κs = search needs
+
+negative-requires : tie.Need-negative-requires
+negative-requires c κs = search needs
+
+negative-requires-2 : tie.Need-negative-requires-2
+negative-requires-2 c κs = search needs
+
+positive-requires : tie.Need-positive-requires
+positive-requires c κs = search needs
+
+returns : tie.Need-returns
+returns c =
+    let a = c .before .before .before .before .before .before .before .args in
+    triple-first (a .r) (a .i) (a .j) (a .k) (a .part) _ _ _ _ _ _ (c .before .before .before .if1 .taken)
+    (c .before .before .before .before .before .before .joined-number .ensures ∙ joined-there _ _ _ (omega arith) (omega arith) (omega arith) (λ e. omega arith))
+    (c .before .before .before .before .before .joined-number2 .ensures ∙ joined-there _ _ _ (omega arith) (omega arith) (omega arith) (λ e. omega arith))
+    (c .before .before .before .before .joined-number3 .ensures ∙ joined-there _ _ _ (omega arith) (omega arith) (omega arith) (λ e. omega arith))
+    (c .before .before .negative .ensures) (c .before .negative2 .ensures) (c .positive .ensures)
+
+negative-requires-3 : tie.Need-negative-requires-3
+negative-requires-3 c κs = search needs
+
+negative-requires-4 : tie.Need-negative-requires-4
+negative-requires-4 c κs = search needs
+
+positive-requires-2 : tie.Need-positive-requires-2
+positive-requires-2 c κs = search needs
+
+returns-2 : tie.Need-returns-2
+returns-2 c =
+    let at = c .before .before .before .before .before in
+    let a = at .before .before .before .args in
+    triple-second (a .r) (a .i) (a .j) (a .k) (a .part) _ _ _ _ _ _ (c .before .before .before .if2 .taken)
+    (at .before .before .joined-number .ensures ∙ joined-there _ _ _ (omega arith) (omega arith) (omega arith) (λ e. omega arith)) (at .before .joined-number2 .ensures ∙ joined-there _ _ _ (omega arith) (omega arith) (omega arith) (λ e. omega arith)) (at .joined-number3 .ensures ∙ joined-there _ _ _ (omega arith) (omega arith) (omega arith) (λ e. omega arith))
+    (c .before .before .negative3 .ensures) (c .before .negative4 .ensures) (c .positive2 .ensures)
+
+negative-requires-5 : tie.Need-negative-requires-5
+negative-requires-5 c κs = search needs
+
+negative-requires-6 : tie.Need-negative-requires-6
+negative-requires-6 c κs = search needs
+
+positive-requires-3 : tie.Need-positive-requires-3
+positive-requires-3 c κs = search needs
+
+returns-3 : tie.Need-returns-3
+returns-3 c =
+    let at = c .before .before .before .before .before in
+    let a = at .before .before .before .args in
+    triple-third (a .r) (a .i) (a .j) (a .k) (a .part) _ _ _ _ _ _ (omega arith)
+    (at .before .before .joined-number .ensures ∙ joined-there _ _ _ (omega arith) (omega arith) (omega arith) (λ e. omega arith)) (at .before .joined-number2 .ensures ∙ joined-there _ _ _ (omega arith) (omega arith) (omega arith) (λ e. omega arith)) (at .joined-number3 .ensures ∙ joined-there _ _ _ (omega arith) (omega arith) (omega arith) (λ e. omega arith))
+    (c .before .before .negative5 .ensures) (c .before .negative6 .ensures) (c .positive3 .ensures)
+
+pub triple-clause-spec : {M : Type 1} → statement M
+triple-clause-spec =
+    tie.close
+    (tie.spec
+    joined-number-requires
+    joined-number-requires-2
+    joined-number-requires-3
+    negative-requires
+    negative-requires-2
+    positive-requires
+    returns
+    negative-requires-3
+    negative-requires-4
+    positive-requires-2
+    returns-2
+    negative-requires-5
+    negative-requires-6
+    positive-requires-3
+    returns-3)

@@ -1,0 +1,28 @@
+-- The code is the definition, by the law of the clause at a number. Assumes nothing.
+use Rattle.formula.specs.Formula.OnRow.{first-at}
+use borrow.Author.Needs.{needs}
+use Rattle.row_clauses.proofs.on_row.first_step_at.Statement.{statement}
+use Rattle.row_clauses.proofs.on_row.first_step_at.Tie as tie
+
+add-e : tie.Need-add-e
+add-e c = search needs
+
+entered-requires : tie.Need-entered-requires
+entered-requires c κs = search needs
+
+negative-requires : tie.Need-negative-requires
+negative-requires c κs = search needs
+
+joined-requires : tie.Need-joined-requires
+joined-requires c κs = search needs
+
+positive-requires : tie.Need-positive-requires
+positive-requires c κs = search needs
+
+returns : tie.Need-returns
+returns c = cc (first-at _ _ _ (c .before .before .before .before .pre .2))
+
+pub first-step-at-spec : {M : Type 1} → statement M
+first-step-at-spec =
+    tie.close
+    (tie.spec add-e entered-requires negative-requires joined-requires positive-requires returns)

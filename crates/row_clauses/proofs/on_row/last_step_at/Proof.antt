@@ -1,0 +1,46 @@
+-- The code is the definition, by the law of the clause at a number. Assumes nothing.
+use Rattle.formula.specs.Formula.OnRow.{last-at}
+use borrow.Author.Needs.{needs}
+use Rattle.row_clauses.proofs.on_row.last_step_at.Statement.{statement}
+use Rattle.row_clauses.proofs.on_row.last_step_at.Tie as tie
+
+add-e : tie.Need-add-e
+add-e c = search needs
+
+entered-requires : tie.Need-entered-requires
+entered-requires c κs = search needs
+
+negative-requires : tie.Need-negative-requires
+negative-requires c κs = search needs
+
+other-end-requires : tie.Need-other-end-requires
+other-end-requires c κs = search needs
+
+mul-joined : tie.Need-mul-joined
+mul-joined c = search needs
+
+add-joined : tie.Need-add-joined
+add-joined c = search needs
+
+joined-requires : tie.Need-joined-requires
+joined-requires c κs = search needs
+
+positive-requires : tie.Need-positive-requires
+positive-requires c κs = search needs
+
+returns : tie.Need-returns
+returns c = cc (last-at _ _ _ _ (c .before .before .before .before .before .pre .4))
+
+pub last-step-at-spec : {M : Type 1} → statement M
+last-step-at-spec =
+    tie.close
+    (tie.spec
+    add-e
+    entered-requires
+    negative-requires
+    other-end-requires
+    mul-joined
+    add-joined
+    joined-requires
+    positive-requires
+    returns)

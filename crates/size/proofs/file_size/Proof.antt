@@ -1,0 +1,40 @@
+-- `size::file_size` meets its contract: the head's length and the lines', or the request's refusal. Assumes nothing.
+use Rattle.size.specs.File.Laws.{sizes-refusal, Counted, sizes-counted, file-length, size-refused, size-good, size-bounded}
+use borrow.Author.Needs.{needs}
+use Rattle.size.proofs.file_size.Statement.{statement}
+use Rattle.size.proofs.file_size.Tie as tie
+
+count-requires : tie.Need-count-requires
+count-requires c κs = search needs
+
+returns : tie.Need-returns
+returns c =
+    let n = c .before .before in
+    let q = n .before .args .q in
+    (size-refused q (sizes-refusal q (n .count .ensures)) (c .if1 .taken), tt)
+
+-- past the test the request is good, and its V and C are at hand
+counted : (c : tie.Else1) → Counted (c .before .before .before .args .q) (c .before .before .count .result)
+counted c = sizes-counted (c .before .before .before .args .q) (c .before .before .count .ensures) (c .if1 .left)
+
+head-length-requires : tie.Need-head-length-requires
+head-length-requires c κs = search needs
+
+body-length-requires : tie.Need-body-length-requires
+body-length-requires c κs = let g = counted (c .before) in (g .good, g .clauses-are)
+
+add-t6 : tie.Need-add-t6
+add-t6 c = search needs
+
+returns-2 : tie.Need-returns-2
+returns-2 c =
+    let h = c .before in
+    let g = counted (h .before) in
+    let q = h .before .before .before .before .args .q in
+    let l = file-length q g (h .head-length .ensures .0) (c .body-length .ensures .0) in
+    (size-good q g l, size-bounded q g (h .head-length .ensures .1) (c .body-length .ensures .0) l)
+
+pub file-size-spec : {M : Type 1} → statement M
+file-size-spec =
+    tie.close
+    (tie.spec count-requires returns head-length-requires body-length-requires add-t6 returns-2)

@@ -1,0 +1,57 @@
+-- The clause file as a list of bytes, and what its size and writing it answer. Assumes nothing.
+use mathlib.Core.Bool.{cond}
+use mathlib.Core.List.{List, [], _∷_, _++_}
+use Prim.Native.Nat.{ℕ, _+_, _*_, _≤_}
+use lib.Dec.{eqb, ltb}
+use lib.ListN.{length}
+use Rattle.prelude.specs.Written.{written}
+use Rattle.cnf.specs.Cnf.{Formula}
+use Rattle.request.specs.Numbers.{refusalOf}
+use Rattle.request.specs.declared.Request.{Request}
+use Rattle.formula.specs.Formula.{formulaOf}
+use Rattle.formula.specs.Count.{variableCount, clauseCount, literalCount}
+use Rattle.text.specs.Decimal.{decimal}
+use Rattle.text.specs.Text.{lineText}
+use Rattle.size.specs.declared.Answer.{Answer}
+use Rattle.size.specs.declared.Answer.the-variants.{Bytes, Refused}
+pub mod Laws
+
+-- document 01's number of an answer, 0 where it is a length, and the length
+abbrev pub numberOf : Answer → ℕ
+numberOf (Bytes k) = 0
+numberOf (Refused x) = x
+
+abbrev pub valuesOf : Answer → List ℕ
+valuesOf (Bytes k) = k ∷ []
+valuesOf (Refused x) = []
+
+-- "p cnf V C" and the newline
+unfoldable pub headText : ℕ → ℕ → List ℕ
+headText v c = 112 ∷ 32 ∷ 99 ∷ 110 ∷ 102 ∷ 32 ∷ (decimal v ++ (32 ∷ (decimal c ++ (10 ∷ []))))
+
+-- "then a line per clause"
+unfoldable pub bodyText : Formula → List ℕ
+bodyText [] = []
+bodyText (c ∷ f) = lineText c ++ bodyText f
+
+-- the file of a request
+unfoldable pub fileText : Request → List ℕ
+fileText q = headText (variableCount q) (length (formulaOf q)) ++ bodyText (formulaOf q)
+
+-- "Size of file: only 2 to 5"; the result is the length
+unfoldable pub sizeAnswer : Request → Answer
+sizeAnswer q = cond (eqb (refusalOf q) 0) (Bytes (length (fileText q))) (Refused (refusalOf q))
+
+-- "The result is at least the length and at most 8·(T+C)+32"
+abbrev pub Bounded : Request → Answer → Type 0
+Bounded q (Bytes k) = (length (fileText q) ≤ k) × (k ≤ 8 * (literalCount q + clauseCount q) + 32)
+Bounded q (Refused x) = Unit {0}
+
+-- "Writing the file: 6 if the buffer is shorter than the file. The result is the length"
+unfoldable pub writeAnswer : Request → ℕ → Answer
+writeAnswer q room =
+    cond (eqb (refusalOf q) 0) (cond (ltb room (length (fileText q))) (Refused 6) (Bytes (length (fileText q)))) (Refused (refusalOf q))
+
+-- "bytes past it stand", and a refusal writes nothing
+unfoldable pub fileWritten : Request → List ℕ → List ℕ
+fileWritten q old = cond (eqb (numberOf (writeAnswer q (length old))) 0) (written old 0 (fileText q)) old

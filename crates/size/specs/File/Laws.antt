@@ -1,0 +1,267 @@
+-- Laws of the file: the head and the lines as their parts one after the other, how long they are, and the answers. Assumes nothing.
+use mathlib.Core.Path.{_≡_, refl, sym, ap, ap₂, _∙_, subst}
+use mathlib.Core.Bool.{Bool, true, false}
+use mathlib.Core.List.{List, [], _∷_, _++_, append-assoc, append-nil}
+use Prim.Native.Nat.{ℕ, _+_, _*_, _≤_, _<_}
+use native.Mathlib.Numerals.{add-one}
+use native.Mathlib.Omega.{arith}
+use lib.Dec.{eqb}
+use lib.ListN.{length, take, drop, set, getD, length-append, length-set, take-append-drop}
+use lib.Seq.{sets, length-sets, sets-eq, take-suc, take-length}
+use borrow.Author.Tests.{lt-ltb, le-ltb, ne-eqb}
+use mathlib.Core.Logic.{⊎-elim}
+use Rattle.prelude.specs.Tests.{eq?}
+use Rattle.prelude.specs.Blocks.{flatten}
+use Rattle.prelude.specs.Lists.{Each}
+use Rattle.prelude.specs.Lists.Laws.{each-in}
+use Rattle.prelude.specs.Written.{written}
+use Rattle.prelude.specs.Written.Laws.{Wrote, wrote-one, wrote-next}
+use Rattle.cnf.specs.Cnf.{Clause, Formula}
+use Rattle.cnf.specs.declared.Literal.{Literal}
+use Rattle.request.specs.Numbers.{Good, refusalOf}
+use Rattle.request.specs.Numbers.Laws.{refusal-good, good-refusal}
+use Rattle.request.specs.declared.Request.{Request}
+use Rattle.formula.specs.Formula.{formulaOf}
+use Rattle.formula.specs.Count.{variableCount, clauseCount, sizesOf}
+use Rattle.formula.specs.Count.Laws.{clause-count, literal-count, sizes-refusal as count-refusal}
+use Rattle.formula.specs.declared.Sizes.{Sizes}
+use Rattle.formula.specs.Number.{clauseOf}
+use Rattle.formula.specs.Number.Laws.{clause-good, clause-low}
+use Rattle.text.specs.Decimal.{decimal}
+use Rattle.text.specs.Decimal.Laws.{length-high}
+use Rattle.text.specs.Text.{literalText, literalsText, lineText, Low}
+use Rattle.text.specs.Text.Laws.{literals-none, literals-length, line-length, positive-length, negative-length}
+use Rattle.size.specs.File.{headText, bodyText, fileText, sizeAnswer, writeAnswer, fileWritten, Bounded, numberOf, valuesOf}
+use Rattle.size.specs.declared.Answer.{Answer}
+use Rattle.size.specs.declared.Answer.the-variants.{Bytes, Refused}
+
+-- the length of the first line
+pub head-length : (v c : ℕ) → length (headText v c) ≡ length (decimal v) + length (decimal c) + 8
+unfolding headText
+head-length v c =
+    let a = length-append (decimal v) (32 ∷ (decimal c ++ (10 ∷ []))) in
+    let b = length-append (decimal c) (10 ∷ []) in
+    omega arith
+
+-- "p cnf "
+abbrev name : List ℕ
+name = 112 ∷ 32 ∷ 99 ∷ 110 ∷ 102 ∷ 32 ∷ []
+
+-- it is written part by part: "p cnf ", V, a space, C and the newline
+pub head-wrote : (v c : ℕ) (l : List ℕ) {m n : List ℕ} {k e : ℕ} → length (headText v c) ≤ length l → length m ≡ length l → length n ≡ length l
+    → Wrote (sets l 0 name) 6 (decimal v) k m → Wrote (set m k 32) (k + 1) (decimal c) e n
+    → (e + 1 ≡ length (headText v c)) × (set n e 10 ≡ written l 0 (headText v c))
+unfolding headText written
+head-wrote v c l {m} {n} {k} {e} room lm ln middle last =
+    let h = head-length v c in
+    let d : List ℕ = decimal c ++ (10 ∷ []) in
+    let dl = length-append (decimal c) (10 ∷ []) in
+    let bl = length-append (decimal v) (32 ∷ d) in
+    let s = length-set m k 32 in
+    let z = length-sets l 0 name in
+    let p = wrote-next (decimal c) (10 ∷ []) d refl (k + 1) (set m k 32) (omega arith) last (wrote-one n e 10 (omega arith)) in
+    let r = wrote-next (32 ∷ []) d (32 ∷ d) refl k m (omega arith) (wrote-one m k 32 (omega arith)) p in
+    let t = wrote-next (decimal v) (32 ∷ d) (decimal v ++ (32 ∷ d)) refl 6 (sets l 0 name) (omega arith) middle r in
+    let w = wrote-next name (decimal v ++ (32 ∷ d)) (headText v c) refl 0 l {k = 6} (omega arith) (refl, sets-eq name l 0 (omega arith)) t in
+    (omega arith, w .1)
+
+-- the lines of clauses one after the other
+body-append : (f g : Formula) → bodyText (f ++ g) ≡ bodyText f ++ bodyText g
+unfolding bodyText
+body-append [] g = refl
+body-append (c ∷ f) g =
+    ap (λ (l : List ℕ). lineText c ++ l) (body-append f g) ∙ sym (append-assoc (lineText c) (bodyText f) (bodyText g))
+
+-- the line of a clause alone
+body-one : (c : Clause) → bodyText (c ∷ []) ≡ lineText c
+unfolding bodyText
+body-one c = append-nil (lineText c)
+
+-- no clause
+pub body-none : bodyText [] ≡ []
+unfolding bodyText
+body-none = refl
+
+-- one line more
+body-more : (f : Formula) (k : ℕ) → k < length f → bodyText (take (k + 1) f) ≡ bodyText (take k f) ++ lineText (getD f k [])
+body-more f k h =
+    ap (λ (j : ℕ). bodyText (take j f)) (add-one k) ∙ ap bodyText (take-suc f k [] h)
+    ∙ body-append (take k f) (getD f k [] ∷ []) ∙ ap (λ (l : List ℕ). bodyText (take k f) ++ l) (body-one (getD f k []))
+
+-- the first lines are no longer than all
+pub body-room : (f : Formula) (k : ℕ) → length (bodyText (take k f)) ≤ length (bodyText f)
+body-room f k =
+    let e = ap (λ (g : Formula). length (bodyText g)) (take-append-drop k f) in
+    let a = ap length (body-append (take k f) (drop k f)) ∙ length-append (bodyText (take k f)) (bodyText (drop k f)) in
+    omega arith
+
+-- a literal whose variable is at most 10000 has at most seven bytes: a minus, five digits and a space
+literal-most : (l : Literal) → l .variable ≤ 10000 → length (literalText l) ≤ 7
+literal-most l h = go (l .negative) refl
+  where
+    go : (b : Bool) → l .negative ≡ b → length (literalText l) ≤ 7
+    go true e = let n = negative-length l e in let d = length-high 4 (l .variable) (omega arith) in omega arith
+    go false e = let n = positive-length l e in let d = length-high 4 (l .variable) (omega arith) in omega arith
+
+-- so literals have at most seven each
+literals-most : (ls : List Literal) → Low ls → length (literalsText ls) ≤ 7 * length ls
+literals-most [] h = let n = ap length literals-none in omega arith
+literals-most (l ∷ ls) h =
+    let n = literals-length l ls in let a = literal-most l (h .0) in let b = literals-most ls (h .1) in omega arith
+
+-- and a line two more
+body-most : (f : Formula) → Each Low f → length (bodyText f) ≤ 7 * length (flatten f) + 2 * length f
+unfolding bodyText flatten
+body-most [] h = omega arith
+body-most (c ∷ f) h =
+    let n = length-append (lineText c) (bodyText f) in
+    let m = length-append c (flatten f) in
+    let l = line-length c in
+    let a = literals-most c (h .0) in
+    let b = body-most f (h .1) in
+    omega arith
+
+-- the refusal among the sizes is the request's
+pub sizes-refusal : (q : Request) {x : Sizes} → x ≡ sizesOf q → x .refusal ≡ refusalOf q
+sizes-refusal q e = ap (λ (x : Sizes). x .refusal) e ∙ count-refusal q
+
+-- a request that is not refused, and its sizes
+pub record Counted (q : Request) (x : Sizes) : Type 0 where
+  pub good : Good q
+  pub variables-are : x .variables ≡ variableCount q
+  pub clauses-are : x .clauses ≡ clauseCount q
+
+-- a request whose sizes hold no refusal
+pub sizes-counted : (q : Request) {x : Sizes} → x ≡ sizesOf q → x .refusal ≡ 0 → Counted q x
+unfolding sizesOf
+sizes-counted q e h =
+    let z : refusalOf q ≡ 0 = sym (sizes-refusal q e) ∙ h in
+    record {
+      good = refusal-good q z;
+      variables-are = ap (λ (x : Sizes). x .variables) e ∙ rw z;
+      clauses-are = ap (λ (x : Sizes). x .clauses) e ∙ rw z;
+    }
+
+module _ (q : Request) (good : Good q) where
+  -- the line of clause k stands after those of the clauses before it
+  pub line-more : (k : ℕ) {ls : List Literal} → k < clauseCount q → ls ≡ clauseOf q k
+      → bodyText (take (k + 1) (formulaOf q)) ≡ bodyText (take k (formulaOf q)) ++ lineText ls
+  line-more k h e =
+      let c = clause-count q (good .n-high) in
+      body-more (formulaOf q) k (omega arith)
+      ∙ ap (λ (x : Clause). bodyText (take k (formulaOf q)) ++ lineText x) (sym (e ∙ clause-good q k good))
+
+  -- so much longer they are
+  pub lines-length : (k : ℕ) {ls : List Literal} → k < clauseCount q → ls ≡ clauseOf q k
+      → length (bodyText (take (k + 1) (formulaOf q))) ≡ length (bodyText (take k (formulaOf q))) + length (lineText ls)
+  lines-length k {ls} h e = ap length (line-more k h e) ∙ length-append (bodyText (take k (formulaOf q))) (lineText ls)
+
+  -- all clauses are the formula
+  pub lines-all : (k : ℕ) → k ≡ clauseCount q → take k (formulaOf q) ≡ formulaOf q
+  lines-all k e = ap (λ (j : ℕ). take j (formulaOf q)) (e ∙ sym (clause-count q (good .n-high))) ∙ take-length (formulaOf q)
+
+  -- every variable of the formula is at most 10000
+  formula-low : Each Low (formulaOf q)
+  formula-low = each-in Low (formulaOf q) [] (λ k h. subst Low (clause-good q k good) (clause-low q k))
+
+module _ (q : Request) {x : Sizes} (counted : Counted q x) where
+  -- the file is the head and the lines
+  file-text : fileText q ≡ headText (x .variables) (x .clauses) ++ bodyText (formulaOf q)
+  unfolding fileText
+  file-text =
+      sym (ap₂ (λ (v c : ℕ). headText v c ++ bodyText (formulaOf q)) (counted .variables-are)
+      (counted .clauses-are ∙ sym (clause-count q (counted .good .n-high))))
+
+  -- its length is theirs
+  pub file-length : {a b : ℕ} → a ≡ length (headText (x .variables) (x .clauses)) → b ≡ length (bodyText (formulaOf q)) → a + b ≡ length (fileText q)
+  file-length e f =
+      let n = ap length file-text ∙ length-append (headText (x .variables) (x .clauses)) (bodyText (formulaOf q)) in omega arith
+
+  -- the size's answer
+  pub size-good : {k : ℕ} → k ≡ length (fileText q) → Bytes k ≡ sizeAnswer q
+  unfolding sizeAnswer
+  size-good e = rw (good-refusal q (counted .good)) (ap Bytes e)
+
+  -- its bound
+  pub size-bounded : {a b : ℕ} → a ≤ 28 → b ≡ length (bodyText (formulaOf q)) → a + b ≡ length (fileText q) → Bounded q (Bytes (a + b))
+  size-bounded h e f =
+      let m = body-most (formulaOf q) (formula-low q (counted .good)) in
+      let c = clause-count q (counted .good .n-high) in
+      let t = literal-count q (counted .good .n-high) in
+      (omega arith, omega arith)
+
+  -- the answer where the buffer is shorter than the file
+  pub write-short : {room : ℕ} → room < length (fileText q) → Refused 6 ≡ writeAnswer q room
+  unfolding writeAnswer
+  write-short {room} h = rw (good-refusal q (counted .good), lt-ltb room (length (fileText q)) h)
+
+  -- such a buffer stays
+  pub file-short : (l : List ℕ) → length l < length (fileText q) → l ≡ fileWritten q l
+  unfolding fileWritten writeAnswer
+  file-short l h = rw (good-refusal q (counted .good), lt-ltb (length l) (length (fileText q)) h)
+
+  -- the answer where it has room
+  pub write-long : {room k : ℕ} → length (fileText q) ≤ room → k ≡ length (fileText q) → Bytes k ≡ writeAnswer q room
+  unfolding writeAnswer
+  write-long {room} h e = rw (good-refusal q (counted .good), le-ltb room (length (fileText q)) h) (ap Bytes e)
+
+  -- then the head is written, and the lines after it
+  pub file-wrote : (l : List ℕ) {m n : List ℕ} {k e : ℕ} → length (fileText q) ≤ length l
+      → (k ≡ length (headText (x .variables) (x .clauses))) × (m ≡ written l 0 (headText (x .variables) (x .clauses)))
+      → Wrote m k (bodyText (formulaOf q)) e n → n ≡ fileWritten q l
+  unfolding fileWritten writeAnswer
+  file-wrote l room (f, p) b =
+      rw (good-refusal q (counted .good), le-ltb (length l) (length (fileText q)) room)
+      (wrote-next (headText (x .variables) (x .clauses)) (bodyText (formulaOf q)) (fileText q) file-text 0 l (omega arith) (omega arith, p) b .1)
+
+module _ (q : Request) {x : ℕ} (is : x ≡ refusalOf q) (not : x ≡ 0 → ⊥) where
+  fails : eqb (refusalOf q) 0 ≡ false
+  fails = ne-eqb (refusalOf q) 0 (λ e. not (is ∙ e))
+
+  -- the size's answer to a refused request
+  pub size-refused : Refused x ≡ sizeAnswer q
+  unfolding sizeAnswer
+  size-refused = rw fails (ap Refused is)
+
+  -- the writer's
+  pub write-refused : (room : ℕ) → Refused x ≡ writeAnswer q room
+  unfolding writeAnswer
+  write-refused room = rw fails (ap Refused is)
+
+  -- the buffer stays
+  pub file-refused : (l : List ℕ) → l ≡ fileWritten q l
+  unfolding fileWritten writeAnswer
+  file-refused l = rw (fails, fails)
+
+-- the size's answer, by the refusal
+size-zero : (q : Request) → refusalOf q ≡ 0 → sizeAnswer q ≡ Bytes (length (fileText q))
+unfolding sizeAnswer
+size-zero q e = rw e
+
+size-number : (q : Request) → (refusalOf q ≡ 0 → ⊥) → sizeAnswer q ≡ Refused (refusalOf q)
+unfolding sizeAnswer
+size-number q d = rw (ne-eqb (refusalOf q) 0 d)
+
+-- a size that is given is the length of a good request's file
+pub size-taken : (q : Request) {k : ℕ} → Bytes k ≡ sizeAnswer q → (refusalOf q ≡ 0) × (k ≡ length (fileText q))
+size-taken q {k} e = ⊎-elim there none (eq? (refusalOf q) 0)
+  where
+    there : refusalOf q ≡ 0 → (refusalOf q ≡ 0) × (k ≡ length (fileText q))
+    there z = (z, ap (λ (a : Answer). getD (valuesOf a) 0 0) (e ∙ size-zero q z))
+
+    none : (refusalOf q ≡ 0 → ⊥) → (refusalOf q ≡ 0) × (k ≡ length (fileText q))
+    none d = let f : _≡_ {A = ℕ} 1 0 = ap (λ (a : Answer). length (valuesOf a)) (e ∙ size-number q d) in absurd (omega arith)
+
+-- a refusal is the request's
+pub size-refusal : (q : Request) {x : ℕ} → Refused x ≡ sizeAnswer q → (x ≡ refusalOf q) × (x ≡ 0 → ⊥)
+size-refusal q {x} e = ⊎-elim none there (eq? (refusalOf q) 0)
+  where
+    none : refusalOf q ≡ 0 → (x ≡ refusalOf q) × (x ≡ 0 → ⊥)
+    none z = let f : _≡_ {A = ℕ} 0 1 = ap (λ (a : Answer). length (valuesOf a)) (e ∙ size-zero q z) in absurd (omega arith)
+
+    there : (refusalOf q ≡ 0 → ⊥) → (x ≡ refusalOf q) × (x ≡ 0 → ⊥)
+    there d = let f : x ≡ refusalOf q = ap numberOf (e ∙ size-number q d) in (f, λ z. d (sym f ∙ z))
+
+-- V and C of a good request
+pub counted-good : (q : Request) {x : Sizes} → x ≡ sizesOf q → refusalOf q ≡ 0 → Counted q x
+counted-good q e z = sizes-counted q e (sizes-refusal q e ∙ z)
