@@ -6,7 +6,7 @@ use lib.Dec.{eqb}
 use lib.ListN.{length, take, drop}
 use Rattle.prelude.specs.Lists.{equalLists, firstOf}
 use Rattle.numeral.specs.Number.{byteAt, literalAt}
-use Rattle.answer.specs.declared.lines.Form.{Form}
+use Rattle.answer.specs.declared.Form.{Form}
 pub mod Laws
 
 -- the place of the first newline from p on, or the text's end

@@ -14,9 +14,9 @@ use Rattle.answer.specs.Lines.{lineEnd, standsAt, solutionLine, formAt}
 use Rattle.answer.specs.Values.{kept, namedFrom, complete, assigned, holding}
 use Rattle.answer.specs.Decode.{decoded}
 use Rattle.answer.specs.declared.Decoded.{Decoded}
-use Rattle.answer.specs.declared.values.Named.{Named}
-use Rattle.answer.specs.declared.read.Line.{Line}
-use Rattle.answer.specs.declared.read.Lines.{Lines}
+use Rattle.answer.specs.declared.Named.{Named}
+use Rattle.answer.specs.declared.Line.{Line}
+use Rattle.answer.specs.declared.Lines.{Lines}
 pub mod Laws
 pub mod Meaning
 

@@ -10,7 +10,7 @@ use Rattle.request.specs.declared.Request.{Request}
 use Rattle.formula.specs.Formula.{P}
 use Rattle.formula.specs.Number.{clauseOf}
 use Rattle.numeral.specs.Number.{byteAt, literalAt}
-use Rattle.answer.specs.declared.values.Named.{Named}
+use Rattle.answer.specs.declared.Named.{Named}
 pub mod Laws
 
 -- the X and L variables are 1 to P + 2n·r

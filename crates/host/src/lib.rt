@@ -62,7 +62,7 @@ pub extern "C" fn nk_write_file(
 pub extern "C" fn nk_test_answer(n: u8, table: u16, r: u8, m: u8, text: &[u8]) -> u32
     ensures { λ x. ⌜ x ≡ readingOf (asked n table r m) (now (text .entry)) .refusal ⌝ }
 {
-    let read = answer::read::read_answer(Request { n, table, r, m }, text);
+    let read = reading::read::read_answer(Request { n, table, r, m }, text);
     read.refusal as u32
 }
 

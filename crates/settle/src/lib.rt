@@ -86,7 +86,7 @@ pub fn settle(
     ensures slices { λ x. ⌜ lent (now (literals .exit)) (now (pairs .exit)) (now (added .exit)) (now (values .exit)) ≡ settleLeaves q (now (answer .entry)) (now (refutation .entry)) (lent (now (literals .entry)) (now (pairs .entry)) (now (added .entry)) (now (values .entry))) ⌝ }
     ensures least { λ x. ⌜ (x .verdict ≡ Least → LeastFor q (x .network)) ⌝ }
 {
-    let read = answer::read::read_answer(q, answer);
+    let read = reading::read::read_answer(q, answer);
     if read.refusal != 0 {
         return refused(read.refusal);
     }

@@ -24,10 +24,10 @@ use Rattle.formula.specs.Formula.{transitivity, choices}
 use Rattle.answer.specs.Values.{kept, namedFrom, complete, assigned, holding}
 use Rattle.answer.specs.Decode.{decoded}
 use Rattle.answer.specs.Reading.{line, gave, passed, valued, lineStep, linesFrom, refusedWith, ended, readingOf}
-use Rattle.answer.specs.declared.lines.Form.{Form}
-use Rattle.answer.specs.declared.read.Line.{Line}
-use Rattle.answer.specs.declared.read.Lines.{Lines}
-use Rattle.answer.specs.declared.values.Named.{Named}
+use Rattle.answer.specs.declared.Form.{Form}
+use Rattle.answer.specs.declared.Line.{Line}
+use Rattle.answer.specs.declared.Lines.{Lines}
+use Rattle.answer.specs.declared.Named.{Named}
 
 module _ (top keep : ℕ) (t : List ℕ) (p phase : ℕ) (values : List ℕ) where
   -- a c line without its newline

@@ -28,7 +28,7 @@ use Rattle.answer.specs.Decode.{labelFor, decoded}
 use Rattle.answer.specs.Decode.Meaning.{label-joined, literal-is, decoded-literal, decoded-label, decoded-formed}
 use Rattle.answer.specs.Reading.{linesFrom, refusedWith, ended, readingOf}
 use Rattle.answer.specs.declared.Decoded.{Decoded}
-use Rattle.answer.specs.declared.read.Lines.{Lines}
+use Rattle.answer.specs.declared.Lines.{Lines}
 
 -- what the lines of an answer give
 abbrev pub linesIn : Request → List ℕ → Lines

@@ -20,7 +20,7 @@ use Rattle.request.specs.declared.Request.{Request}
 use Rattle.numeral.specs.declared.Word.{Word}
 use Rattle.numeral.specs.Number.{byteAt, literalAt}
 use Rattle.numeral.specs.Number.Laws.{byte-past}
-use Rattle.answer.specs.declared.values.Named.{Named}
+use Rattle.answer.specs.declared.Named.{Named}
 use Rattle.answer.specs.Values.{named, refusedBy, keptBy, namedOne, namedFrom, complete, assigned, holding}
 
 -- ---- one number of a line
