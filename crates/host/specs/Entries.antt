@@ -1,10 +1,8 @@
 -- The numbers of an entry as a request, and what stands behind an out-parameter afterwards. Assumes nothing.
-use mathlib.Core.List.{List, _∷_, _++_}
 use Prim.Native.Nat.{ℕ}
 use Rattle.request.specs.declared.Request.{Request}
 use Rattle.size.specs.declared.Answer.{Answer}
 use Rattle.size.specs.declared.Answer.the-variants.{Bytes, Refused}
-use Rattle.network.specs.declared.Network.{Network}
 use Rattle.settle.specs.declared.Verdict.{Verdict}
 use Rattle.settle.specs.declared.Verdict.the-variants.{Least, Works, Fails, Refused as settleRefused}
 pub mod Laws
@@ -24,7 +22,3 @@ verdictCode Least = 0
 verdictCode (Works x) = 1
 verdictCode (Fails row) = 2
 verdictCode (settleRefused x) = 3
-
--- a network for the host: r, the 7 literals, the 16 labels
-abbrev pub networkBytes : Network → List ℕ
-networkBytes w = w .r ∷ (w .literals ++ w .labels)

@@ -1,13 +1,11 @@
 // The entries that a host in C or C++ calls: numbers and slices in, a number out, 0 for "taken", "none" or "least". A slice passes as
 // a pointer and a length, an array as a pointer. On a refusal the number behind size or length stands; count, number and network are
 // always written.
-use network::Network;
 use refutation::Outcome;
 use request::Request;
 use settle::Verdict;
 use size::Answer;
 ghost use mathlib.Core.Path.{_≡_};
-ghost use mathlib.Core.List.{_∷_, _++_};
 ghost use lib.ListN.{length};
 ghost use Rattle.size.specs.File.{numberOf, sizeAnswer, writeAnswer, fileWritten};
 ghost use Rattle.answer.specs.Reading.{readingOf};
@@ -16,7 +14,8 @@ ghost use Rattle.cnf.specs.Cnf.{Satisfiable};
 ghost use Rattle.formula.specs.Formula.{formulaOf};
 ghost use Rattle.refutation.specs.Refutation.{lent, outcomeNumber, checkAnswer, checkLeaves};
 ghost use Rattle.settle.specs.Settle.{verdictNumber, settlement, settleLeaves, LeastFor};
-ghost use Rattle.host.specs.Entries.{asked, bytesOr, verdictCode, networkBytes};
+ghost use Rattle.network_bytes.specs.Bytes.{networkBytes};
+ghost use Rattle.host.specs.Entries.{asked, bytesOr, verdictCode};
 
 // The size of a request's clause file.
 #[no_mangle]
@@ -126,46 +125,6 @@ fn verdict_number(verdict: Verdict) -> u32
     }
 }
 
-// A network's r, its 7 literals and its 16 labels in one array.
-fn in_bytes(r: u8, literals: [u8; 7], labels: [u8; 16]) -> [u8; 24]
-    ensures { λ x. ⌜ x ≡ r ∷ (literals ++ labels) ⌝ }
-{
-    [
-        r,
-        literals[0],
-        literals[1],
-        literals[2],
-        literals[3],
-        literals[4],
-        literals[5],
-        literals[6],
-        labels[0],
-        labels[1],
-        labels[2],
-        labels[3],
-        labels[4],
-        labels[5],
-        labels[6],
-        labels[7],
-        labels[8],
-        labels[9],
-        labels[10],
-        labels[11],
-        labels[12],
-        labels[13],
-        labels[14],
-        labels[15],
-    ]
-}
-
-fn network_bytes(w: Network) -> [u8; 24]
-    ensures { λ x. ⌜ x ≡ networkBytes w ⌝ }
-{
-    let literals = w.literals;
-    let labels = w.labels;
-    in_bytes(w.r, literals, labels)
-}
-
 // Settles a request with r = k by an answer and a refutation for k-1, over four lent slices: 0 least, 1 works, 2 fails, 3 refused. The
 // number that goes with the verdict goes behind number, and the network that it is of into network.
 #[no_mangle]
@@ -199,7 +158,7 @@ pub extern "C" fn nk_settle(
         values,
     );
     let w = settled.network;
-    *network = network_bytes(w);
+    *network = network_bytes::network_bytes(w);
     let verdict = settled.verdict;
     *number = verdict_number(verdict);
     verdict_code(verdict)

@@ -8,7 +8,8 @@ use Rattle.refutation.specs.Refutation.{Lent, lent}
 use Rattle.settle.specs.declared.Settlement.{Settlement}
 use Rattle.settle.specs.declared.Verdict.the-variants.{Least}
 use Rattle.settle.specs.Settle.{verdictNumber, settlement, settleLeaves, LeastFor}
-use Rattle.host.specs.Entries.{verdictCode, networkBytes}
+use Rattle.network_bytes.specs.Bytes.{networkBytes}
+use Rattle.host.specs.Entries.{verdictCode}
 use Rattle.host.specs.Entries.Laws.{code-least}
 use Rattle.host.proofs.nk_settle.Statement.{statement}
 use Rattle.host.proofs.nk_settle.Tie as tie

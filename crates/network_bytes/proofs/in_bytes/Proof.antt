@@ -3,9 +3,9 @@ use mathlib.Core.Path.{ap₂}
 use mathlib.Core.List.{List, _∷_, _++_}
 use Prim.Native.Nat.{ℕ}
 use borrow.Author.Needs.{needs}
-use Rattle.host.specs.Entries.Laws.{by-entries}
-use Rattle.host.proofs.in_bytes.Statement.{statement}
-use Rattle.host.proofs.in_bytes.Tie as tie
+use Rattle.network_bytes.specs.Bytes.{by-entries}
+use Rattle.network_bytes.proofs.in_bytes.Statement.{statement}
+use Rattle.network_bytes.proofs.in_bytes.Tie as tie
 
 array-read-t8 : tie.Need-array-read-t8
 array-read-t8 c = search needs

@@ -1,0 +1,2 @@
+-- A network as bytes. Assumes nothing.
+pub mod Bytes

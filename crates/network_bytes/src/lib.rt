@@ -1,0 +1,46 @@
+// A network as bytes, for a host: r, a literal for each switch, a label for each terminal.
+use network::Network;
+ghost use mathlib.Core.Path.{_≡_};
+ghost use mathlib.Core.List.{_∷_, _++_};
+ghost use Rattle.network_bytes.specs.Bytes.{networkBytes};
+
+// A network's r, its 7 literals and its 16 labels in one array.
+fn in_bytes(r: u8, literals: [u8; 7], labels: [u8; 16]) -> [u8; 24]
+    ensures { λ x. ⌜ x ≡ r ∷ (literals ++ labels) ⌝ }
+{
+    [
+        r,
+        literals[0],
+        literals[1],
+        literals[2],
+        literals[3],
+        literals[4],
+        literals[5],
+        literals[6],
+        labels[0],
+        labels[1],
+        labels[2],
+        labels[3],
+        labels[4],
+        labels[5],
+        labels[6],
+        labels[7],
+        labels[8],
+        labels[9],
+        labels[10],
+        labels[11],
+        labels[12],
+        labels[13],
+        labels[14],
+        labels[15],
+    ]
+}
+
+// The same of a network as a value.
+pub fn network_bytes(w: Network) -> [u8; 24]
+    ensures { λ x. ⌜ x ≡ networkBytes w ⌝ }
+{
+    let literals = w.literals;
+    let labels = w.labels;
+    in_bytes(w.r, literals, labels)
+}
