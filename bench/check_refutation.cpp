@@ -15,7 +15,7 @@
 #include <string>
 #include <vector>
 
-#include "../tests/host/nordkelch.h"
+#include "../host/nordkelch.h"
 #include "../tests/second/clauses.hpp"
 #include "plain_refutation.hpp"
 

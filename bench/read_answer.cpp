@@ -4,7 +4,7 @@
 #include <cstdio>
 #include <string>
 
-#include "../tests/host/nordkelch.h"
+#include "../host/nordkelch.h"
 
 // An answer to "1 01 1 1" whose last variable, 15, is named count times more.
 static std::string answer(unsigned count, const char* between) {

@@ -12,7 +12,7 @@
 #include <cstring>
 #include <vector>
 
-#include "../tests/host/nordkelch.h"
+#include "../host/nordkelch.h"
 
 namespace {
 

@@ -21,7 +21,7 @@
 
 #include "../second/answers.hpp"
 #include "checks.hpp"
-#include "nordkelch.h"
+#include "../../host/nordkelch.h"
 
 namespace {
 

@@ -18,7 +18,7 @@
 
 #include "../second/clauses.hpp"
 #include "checks.hpp"
-#include "nordkelch.h"
+#include "../../host/nordkelch.h"
 
 namespace {
 

@@ -27,7 +27,7 @@
 #include "../second/refutations.hpp"
 #include "checks.hpp"
 #include "made_refutations.hpp"
-#include "nordkelch.h"
+#include "../../host/nordkelch.h"
 
 namespace {
 

@@ -14,7 +14,7 @@
 
 #include "../second/settling.hpp"
 #include "checks.hpp"
-#include "nordkelch.h"
+#include "../../host/nordkelch.h"
 
 namespace {
 

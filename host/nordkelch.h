@@ -1,0 +1,197 @@
+/* The C entries of the proved library for the clause file of a request, for
+ * reading an answer to it, for checking a refutation of it, and for settling
+ * it: whether the answer's network has the least number of switches.
+ *
+ * A request is handed over as numbers:
+ *   n      inputs, 1 to 4
+ *   table  bit k is row k, 1 for an on row; no bit at or above 2^n
+ *   r      switches, 0 to 7
+ *   m      the series bound M, 0 to 7
+ * Row 0 is the first character of a written table, and input 0 is the highest
+ * bit of a row's number.
+ *
+ * Each entry but nk_settle answers 0 when the request is taken, else the
+ * number of the refusal. Of 2 to 6 the lowest number that applies is given:
+ *   2 bad n, 3 bad table, 4 bad r, 5 bad M, 6 the buffer is too short.
+ * An answer's lines are read from the top, and the first fault counts:
+ *   9 a line's form, 10 a variable above V or an X or L variable named twice;
+ * then, at the end of the text:
+ *   11 something missing, 12 the values describe no network.
+ * A refutation has, after 2 to 5 and in this order:
+ *   7 the literals are too short, 8 the pairs, 14 the values, 15 the text is
+ *   above 16,777,215 bytes;
+ * then its lines are checked from the top, and the first fault counts:
+ *   16 a line's form, 17 an id that isn't the next, 18 a literal outside +-V
+ *   or a variable twice, 22 no place for the pair, 19 a clause that doesn't
+ *   stand, 20 a hint that sets nothing, 21 no conflict;
+ * and 23 when the text ends before the empty clause.
+ *
+ * Pointers may not be null. What they name may not overlap. A slice is a
+ * pointer and a length, in entries; a slice of length 0 still needs a pointer
+ * that is not null. The entries keep nothing between calls, allocate nothing
+ * and call nothing but memcpy and memset, so threads may call them at the same
+ * time over slices of their own.
+ *
+ * What to lend
+ * ------------
+ * A refutation is checked over slices whose sizes follow from the request that
+ * it refutes: V variables, C clauses, and T literals in all clauses. Write the
+ * request's clause file and read them off:
+ *   V, C  the two numbers of its first line, "p cnf V C"
+ *   T     the number of spaces after its first line, since a clause's line
+ *         has a space after each of its literals and none after its 0
+ * or lend the most that any request has:
+ *
+ *                        V       C       T   bytes of the file
+ *   any request      1,856  27,547  77,088             420,799
+ *   nk_settle's      1,595  20,978  58,140             311,213
+ *
+ * The second line is for the refutation that nk_settle reads, which is of the
+ * request with k - 1, at most 6, switches. Lend
+ *   literals  T entries: at most 77,088, which is 308,352 bytes
+ *   pairs     2C entries: at most 55,094, which is 220,376 bytes
+ *   values    V + 1 bytes: at most 1,857
+ *   added     two entries for each line of the text that adds a clause; a line
+ *             whose second word is "d" adds none, nor does the empty clause.
+ *             Twice the number of newlines is always enough, and a line that
+ *             adds a clause has ten bytes or more: "7 1 0 5 0" and a newline
+ * Longer slices do no harm: entries past what is named here stand.
+ * host/settle.cpp is an example.
+ */
+#ifndef NORDKELCH_H
+#define NORDKELCH_H
+
+#include <stddef.h>
+#include <stdint.h>
+
+#ifdef __cplusplus
+extern "C" {
+#endif
+
+/* The refusals by name, with the numbers of document 01. 1 is not among the
+ * answers of the entries, which take a request as numbers; it is for a host
+ * that reads the line of a request. Nor is 13: a network that was read from an
+ * answer always has the form. */
+enum nk_refusal {
+    NK_TAKEN = 0,               /* no refusal */
+    NK_BAD_LINE = 1,            /* the line of a request hasn't its form */
+    NK_BAD_N = 2,               /* n is not 1 to 4 */
+    NK_BAD_TABLE = 3,           /* a table bit at or above 2^n */
+    NK_BAD_R = 4,               /* r is above 7 */
+    NK_BAD_M = 5,               /* M is above 7 */
+    NK_SHORT_BUFFER = 6,        /* the buffer is shorter than the file */
+    NK_SHORT_LITERALS = 7,      /* fewer than T literals are lent */
+    NK_SHORT_PAIRS = 8,         /* fewer than 2C entries of pairs are lent */
+    NK_ANSWER_LINE = 9,         /* a line of the answer hasn't its form */
+    NK_ANSWER_VARIABLE = 10,    /* a variable above V; an X or L variable twice */
+    NK_ANSWER_MISSING = 11,     /* no s line, no 0, or an X or L value missing */
+    NK_ANSWER_NO_NETWORK = 12,  /* the values break the clauses of groups 1 and 2 */
+    NK_NETWORK_FORM = 13,       /* a network without the form */
+    NK_SHORT_VALUES = 14,       /* fewer than V + 1 values are lent */
+    NK_LONG_REFUTATION = 15,    /* the refutation is above 16,777,215 bytes */
+    NK_REFUTATION_LINE = 16,    /* a line of the refutation hasn't its form */
+    NK_NOT_NEXT_ID = 17,        /* an added clause's id is not the next one */
+    NK_BAD_LITERAL = 18,        /* a literal outside +-V, or a variable twice */
+    NK_CLAUSE_NOT_STANDING = 19, /* a hint or a deletion of a clause that doesn't stand */
+    NK_HINT_SETS_NOTHING = 20,  /* a hint that is neither unit nor the conflict */
+    NK_NO_CONFLICT = 21,        /* the hints are spent without a conflict */
+    NK_NO_PLACE = 22,           /* no two entries left in added */
+    NK_NO_EMPTY_CLAUSE = 23     /* the text ends before the empty clause */
+};
+
+/* What nk_settle answers. */
+enum nk_verdict { NK_LEAST = 0, NK_WORKS = 1, NK_FAILS = 2, NK_REFUSED = 3 };
+
+/* The longest refutation that is read, in bytes. */
+#define NK_REFUTATION_LIMIT 16777215
+
+/* How large a buffer is enough for the file.
+ *
+ * 0: *size is at least the file's length and at most 8(T+C)+32, with T
+ *    literals and C clauses in the file.
+ * 2 to 5: refused, *size stands.
+ */
+uint32_t nk_file_size(uint8_t n, uint16_t table, uint8_t r, uint8_t m, uint64_t *size);
+
+/* Writes the file into the first bytes of buffer[0 .. buffer_length). The
+ * size that nk_file_size gives is enough, and so are 420,799 bytes for any
+ * request.
+ *
+ * 0: *length is the file's length; bytes of the buffer past it stand. The
+ *    file is the text for a SAT solver: it is satisfiable exactly when some
+ *    network of r switches does the job.
+ * 2 to 6: refused; nothing is written to the buffer, *length stands.
+ */
+uint32_t nk_write_file(uint8_t n, uint16_t table, uint8_t r, uint8_t m, uint8_t *buffer,
+                       size_t buffer_length, uint64_t *length);
+
+/* Tests the answer text[0 .. text_length): only the number of the
+ * refusal is handed back, not the network. The text may be empty. Nothing is
+ * lent and nothing written.
+ *
+ * 0: the answer is taken. Whether its network does the job is not tested here.
+ * 2 to 5, 9 to 12: refused.
+ */
+uint32_t nk_test_answer(uint8_t n, uint16_t table, uint8_t r, uint8_t m, const uint8_t *text,
+                        size_t text_length);
+
+/* Checks the refutation text[0 .. text_len), which may be empty. With V
+ * variables, C clauses and T literals in the file, the lent slices are:
+ *   literals  at least T entries, the literals of all clauses
+ *   pairs     at least 2C entries, offset and length of each clause in them
+ *   added     any number of entries, two for each added clause: offset and
+ *             length, in bytes of the text, of its literals; the length of a
+ *             deleted one is 0
+ *   values    at least V+1 bytes
+ * What they hold before the call does not matter.
+ *
+ * 0: the text refutes the request ("none"). 16 to 23: refused. In both cases
+ *    the first T literals and 2C pairs are filled, *count is the number of
+ *    added clauses, the first 2 * *count entries of added are theirs, the
+ *    first V+1 values are 0, and all other entries stand.
+ * 2 to 5, 7, 8, 14, 15: refused; the slices stand, *count is 0.
+ *
+ * Clause i of the file, from 1, is pairs[2i-1] literals from entry
+ * pairs[2i-2] of literals on. The added clause with id C+1+j is the text's
+ * added[2j+1] bytes from byte added[2j] on.
+ */
+uint32_t nk_check_refutation(uint8_t n, uint16_t table, uint8_t r, uint8_t m, const uint8_t *text,
+                            size_t text_len, int32_t *literals, size_t literals_len,
+                            uint32_t *pairs, size_t pairs_len, uint32_t *added, size_t added_len,
+                            uint8_t *values, size_t values_len, uint32_t *count);
+
+/* Settles a request with k switches by an answer to it and a refutation of the
+ * request with k - 1 switches. Both texts may be empty. The lent slices are
+ * those of nk_check_refutation, for k - 1. At k = 0 the refutation is not read
+ * and the slices may be empty.
+ *
+ * 0: least. The network does the job, and no network of fewer switches does,
+ *    whatever its size. *number is 0.
+ * 1: works. The network does the job; *number is the refutation's refusal: 7,
+ *    8, 14, 15 or 16 to 23.
+ * 2: fails. *number is the lowest wrong row of the network.
+ * 3: refused. *number is the answer's refusal: 2 to 5 or 9 to 12.
+ *
+ * network[0] is the network's number of switches r, network[1 .. 8) its
+ * literals, of which the first r count, and network[8 .. 24) its labels, of
+ * which the first 2r+2 count; all other entries are 0. It is the network that
+ * the answer describes; after 3 all 24 bytes are 0. Switch s, from 0, has the
+ * literal network[1+s] and its ends on the nets network[8+2s+1] and
+ * network[8+2s+2]; the source is on net network[8], which is 0, and the sink
+ * on net network[8+2r+1]. A literal v below n is input v, n + v is the
+ * complement of input v.
+ *
+ * After 0 and 1 the slices are, for k above 0, as nk_check_refutation leaves
+ * them; at k = 0 and after 2 and 3 they stand.
+ */
+uint32_t nk_settle(uint8_t n, uint16_t table, uint8_t k, uint8_t m, const uint8_t *answer,
+                   size_t answer_len, const uint8_t *refutation, size_t refutation_len,
+                   int32_t *literals, size_t literals_len, uint32_t *pairs, size_t pairs_len,
+                   uint32_t *added, size_t added_len, uint8_t *values, size_t values_len,
+                   uint8_t network[24], uint32_t *number);
+
+#ifdef __cplusplus
+}
+#endif
+
+#endif
