@@ -23,7 +23,8 @@ int main() {
         return 1;
     }
     const std::string file = clause_file(request);
-    const bool written = !file.empty() && std::fwrite(file.data(), 1, file.size(), stdout) == file.size();
+    const bool written =
+        !file.empty() && std::fwrite(file.data(), 1, file.size(), stdout) == file.size();
     if (!written || std::fflush(stdout) != 0) {
         std::fprintf(stderr, "clauses: cannot write the file\n");
         return 2;

@@ -63,12 +63,14 @@ bool read_network(Network& network) {
     for (unsigned s = 0; s < k; s++) {
         unsigned name, literal, from, to;
         if (!read_line(line)) return false;
-        if (std::sscanf(line.c_str(), "%u %u %u %u%c", &name, &literal, &from, &to, &rest) != 4) return false;
+        if (std::sscanf(line.c_str(), "%u %u %u %u%c", &name, &literal, &from, &to, &rest) != 4)
+            return false;
         if (name != s || literal > 7 || from > 15 || to > 15) return false;
         network.switches.push_back({literal, int(from), int(to)});
     }
     unsigned sink;
-    if (!read_line(line) || std::sscanf(line.c_str(), "sink %u%c", &sink, &rest) != 1 || sink > 15) return false;
+    if (!read_line(line) || std::sscanf(line.c_str(), "sink %u%c", &sink, &rest) != 1 || sink > 15)
+        return false;
     network.sink = int(sink);
     return true;
 }
@@ -84,9 +86,9 @@ struct Point {
 
 double distance(Point p, Point q) { return std::hypot(p.x - q.x, p.y - q.y); }
 
-constexpr double step = 150;       // from a net to the next along a path
-constexpr double height = 90;      // between two heights
-constexpr double apart = 44;       // between switches that join the same two nets
+constexpr double step = 150;   // from a net to the next along a path
+constexpr double height = 90;  // between two heights
+constexpr double apart = 44;   // between switches that join the same two nets
 constexpr double net_radius = 15;
 constexpr double label_width = 36;
 constexpr double label_height = 24;
@@ -199,7 +201,8 @@ bool cross(Point a, Point b, Point c, Point d) {
 }
 
 bool near_label(Point label, Point p, double more) {
-    return std::abs(label.x - p.x) < label_width / 2 + more && std::abs(label.y - p.y) < label_height / 2 + more;
+    return std::abs(label.x - p.x) < label_width / 2 + more &&
+           std::abs(label.y - p.y) < label_height / 2 + more;
 }
 
 // What two switches cost each other: crossing, labels over each other, and a
@@ -211,7 +214,9 @@ double cost_of_pair(const Curve& c, const Curve& d) {
             if (cross(c.points[i], c.points[i + 1], d.points[j], d.points[j + 1])) cost += 100;
         }
     }
-    if (std::abs(c.label.x - d.label.x) < label_width + 4 && std::abs(c.label.y - d.label.y) < label_height + 4) cost += 300;
+    if (std::abs(c.label.x - d.label.x) < label_width + 4 &&
+        std::abs(c.label.y - d.label.y) < label_height + 4)
+        cost += 300;
     for (Point p : c.points) cost += near_label(d.label, p, 3) ? 60 : 0;
     for (Point p : d.points) cost += near_label(c.label, p, 3) ? 60 : 0;
     return cost;
@@ -236,7 +241,8 @@ double cost_of(const std::vector<Curve>& curves, const std::map<int, Point>& pla
     cost += std::abs(balance) / 10 + (balance > 0 ? 1 : 0);
     for (std::size_t i = 0; i < curves.size(); i++) {
         cost += distance(curves[i].start, curves[i].end) / 50;
-        for (std::size_t j = i + 1; j < curves.size(); j++) cost += cost_of_pair(curves[i], curves[j]);
+        for (std::size_t j = i + 1; j < curves.size(); j++)
+            cost += cost_of_pair(curves[i], curves[j]);
     }
     return cost;
 }
@@ -317,38 +323,43 @@ std::string literal_name(unsigned literal, unsigned n) {
 }
 
 void print_text(Point at, const char* anchor, int size, const std::string& text) {
-    std::printf("<text x=\"%.1f\" y=\"%.1f\" text-anchor=\"%s\" font-size=\"%d\">%s</text>\n", at.x, at.y, anchor, size,
-                text.c_str());
+    std::printf("<text x=\"%.1f\" y=\"%.1f\" text-anchor=\"%s\" font-size=\"%d\">%s</text>\n", at.x,
+                at.y, anchor, size, text.c_str());
 }
 
 void print_switch(std::size_t s, const Switch& about, const Curve& c, unsigned n) {
     const std::string name = literal_name(about.literal, n);
-    std::printf("<g class=\"switch\"><title>switch %zu: %s, between the nets %d and %d</title>\n", s, name.c_str(), about.from,
-                about.to);
+    std::printf("<g class=\"switch\"><title>switch %zu: %s, between the nets %d and %d</title>\n",
+                s, name.c_str(), about.from, about.to);
     if (c.from == c.to) {
         const double x = c.start.x, y = c.start.y, top = c.label.y;
-        std::printf("<path d=\"M %.1f %.1f C %.1f %.1f %.1f %.1f %.1f %.1f\"/>\n", x, y, x - 60, top - 15, x + 60, top - 15, x, y);
+        std::printf("<path d=\"M %.1f %.1f C %.1f %.1f %.1f %.1f %.1f %.1f\"/>\n", x, y, x - 60,
+                    top - 15, x + 60, top - 15, x, y);
     } else {
-        std::printf("<path d=\"M %.1f %.1f Q %.1f %.1f %.1f %.1f\"/>\n", c.start.x, c.start.y, c.bend.x, c.bend.y, c.end.x,
-                    c.end.y);
+        std::printf("<path d=\"M %.1f %.1f Q %.1f %.1f %.1f %.1f\"/>\n", c.start.x, c.start.y,
+                    c.bend.x, c.bend.y, c.end.x, c.end.y);
     }
-    std::printf("<rect x=\"%.1f\" y=\"%.1f\" width=\"%.1f\" height=\"%.1f\" rx=\"4\"/>\n", c.label.x - label_width / 2,
-                c.label.y - label_height / 2, label_width, label_height);
+    std::printf("<rect x=\"%.1f\" y=\"%.1f\" width=\"%.1f\" height=\"%.1f\" rx=\"4\"/>\n",
+                c.label.x - label_width / 2, c.label.y - label_height / 2, label_width,
+                label_height);
     print_text({c.label.x, c.label.y + 5}, "middle", 16, name);
     std::printf("</g>\n");
 }
 
 void print_net(int net, Point at, const Network& network) {
     const bool source = net == 0, sink = net == network.sink;
-    std::printf("<g class=\"net%s%s\"><circle cx=\"%.1f\" cy=\"%.1f\" r=\"%.1f\"/>\n", source ? " source" : "", sink ? " sink" : "",
-                at.x, at.y, net_radius);
+    std::printf("<g class=\"net%s%s\"><circle cx=\"%.1f\" cy=\"%.1f\" r=\"%.1f\"/>\n",
+                source ? " source" : "", sink ? " sink" : "", at.x, at.y, net_radius);
     print_text({at.x, at.y + 5}, "middle", 14, std::to_string(net));
     if (source || sink) {
         const char* name = source && sink ? "source and sink" : source ? "source" : "sink";
         // beside the net and away from the others, or below where both are one
-        if (source && sink) print_text({at.x, at.y + net_radius + 18}, "middle", 14, name);
-        else if (source) print_text({at.x - net_radius - 6, at.y + 5}, "end", 14, name);
-        else print_text({at.x + net_radius + 6, at.y + 5}, "start", 14, name);
+        if (source && sink)
+            print_text({at.x, at.y + net_radius + 18}, "middle", 14, name);
+        else if (source)
+            print_text({at.x - net_radius - 6, at.y + 5}, "end", 14, name);
+        else
+            print_text({at.x + net_radius + 6, at.y + 5}, "start", 14, name);
     }
     std::printf("</g>\n");
 }
@@ -366,18 +377,22 @@ void print_picture(const Network& network, unsigned n) {
     // room for the words beside source and sink, and for the verdict above
     low = {low.x - 85, low.y - 70};
     high = {high.x + 85, high.y + 40};
-    std::printf("<svg xmlns=\"http://www.w3.org/2000/svg\" width=\"%.0f\" height=\"%.0f\" viewBox=\"%.1f %.1f %.1f %.1f\" "
-                "font-family=\"sans-serif\">\n",
-                high.x - low.x, high.y - low.y, low.x, low.y, high.x - low.x, high.y - low.y);
-    std::printf("<style>.switch path { fill: none; stroke: #345; stroke-width: 2 } "
-                ".switch rect { fill: white; stroke: #345 } "
-                ".net circle { fill: white; stroke: black; stroke-width: 2 } "
-                ".source circle, .sink circle { fill: #dde8f4 }</style>\n");
-    std::printf("<rect x=\"%.1f\" y=\"%.1f\" width=\"%.1f\" height=\"%.1f\" fill=\"white\"/>\n", low.x, low.y, high.x - low.x,
-                high.y - low.y);
+    std::printf(
+        "<svg xmlns=\"http://www.w3.org/2000/svg\" width=\"%.0f\" height=\"%.0f\" viewBox=\"%.1f "
+        "%.1f %.1f %.1f\" "
+        "font-family=\"sans-serif\">\n",
+        high.x - low.x, high.y - low.y, low.x, low.y, high.x - low.x, high.y - low.y);
+    std::printf(
+        "<style>.switch path { fill: none; stroke: #345; stroke-width: 2 } "
+        ".switch rect { fill: white; stroke: #345 } "
+        ".net circle { fill: white; stroke: black; stroke-width: 2 } "
+        ".source circle, .sink circle { fill: #dde8f4 }</style>\n");
+    std::printf("<rect x=\"%.1f\" y=\"%.1f\" width=\"%.1f\" height=\"%.1f\" fill=\"white\"/>\n",
+                low.x, low.y, high.x - low.x, high.y - low.y);
     print_text({low.x + 12, low.y + 26}, "start", 16, network.verdict);
     // nets last, over the ends of the lines
-    for (std::size_t s = 0; s < curves.size(); s++) print_switch(s, network.switches[s], curves[s], n);
+    for (std::size_t s = 0; s < curves.size(); s++)
+        print_switch(s, network.switches[s], curves[s], n);
     for (const auto& [net, place] : places) print_net(net, place, network);
     std::printf("</svg>\n");
 }

@@ -55,11 +55,11 @@ constexpr std::uint32_t none = UINT32_MAX;
 enum Kind { used = 0, other = 1 };
 
 struct Clause {
-    std::size_t start = 0;      // of its literals
-    std::uint32_t size = 0;     // how many they are
+    std::size_t start = 0;   // of its literals
+    std::uint32_t size = 0;  // how many they are
     Kind kind = other;
-    std::uint32_t uses = 0;     // how often it is a hint in a line that is written
-    std::size_t hints = 0;      // where its hints start, once it is checked
+    std::uint32_t uses = 0;  // how often it is a hint in a line that is written
+    std::size_t hints = 0;   // where its hints start, once it is checked
     std::uint32_t hint_count = 0;
 };
 
@@ -72,13 +72,22 @@ struct Watch {
 
 class Clauses {
   public:
+    // Room for variables 1 to the last.
+    void make_room(int last) {
+        const std::size_t count = std::size_t(last) + 1;
+        reasons_.resize(count, none);
+        values_.resize(2 * count, 0);
+        for (auto& lists : watches_) lists.resize(2 * count);
+    }
+
+    int last_variable() const { return int(reasons_.size()) - 1; }
+
     // Adds a clause without attaching it; returns its index.
     std::uint32_t add(const std::vector<int>& literals) {
         Clause clause;
         clause.start = literals_.size();
         clause.size = std::uint32_t(literals.size());
         literals_.insert(literals_.end(), literals.begin(), literals.end());
-        for (int literal : literals) make_room(std::abs(literal));
         clauses_.push_back(clause);
         return std::uint32_t(clauses_.size() - 1);
     }
@@ -198,14 +207,6 @@ class Clauses {
 
     std::vector<Watch>& watches(Kind kind, int literal) { return watches_[kind][index(literal)]; }
 
-    void make_room(int variable) {
-        const std::size_t count = std::size_t(variable) + 1;
-        if (reasons_.size() >= count) return;
-        reasons_.resize(count, none);
-        values_.resize(2 * count, 0);
-        for (auto& lists : watches_) lists.resize(2 * count);
-    }
-
     std::uint32_t take_unit(std::uint32_t c) {
         const int literal = *begin(c);
         if (value(literal) < 0) return c;
@@ -292,7 +293,8 @@ class Words {
     int number(const std::string& word) const {
         char* end = nullptr;
         const long value = std::strtol(word.c_str(), &end, 10);
-        if (word.empty() || *end != 0 || std::labs(value) > 999999999) stop("not a number: " + word);
+        if (word.empty() || *end != 0 || std::labs(value) > 999999999)
+            stop("not a number: " + word);
         return int(value);
     }
 
@@ -318,9 +320,11 @@ class Reader {
         Words words(text);
         std::string word;
         for (const char* expected : {"p", "cnf"}) {
-            if (!words.next(word) || word != expected) stop("the clause file has no line \"p cnf V C\"");
+            if (!words.next(word) || word != expected)
+                stop("the clause file has no line \"p cnf V C\"");
         }
         words.next(word);
+        clauses_.make_room(std::abs(words.number(word)));
         words.next(word);
         const std::size_t count = std::size_t(words.number(word));
         std::vector<int> literals;
@@ -333,7 +337,8 @@ class Reader {
                 literals.clear();
             }
         }
-        if (!literals.empty() || clauses_.count() != count) stop("the clause file has another number of clauses");
+        if (!literals.empty() || clauses_.count() != count)
+            stop("the clause file has another number of clauses");
     }
 
     // A binary proof has a byte 0 after each step, a text has none at all.
@@ -376,18 +381,21 @@ class Reader {
         std::vector<int> literals;
         while (at < proof.size()) {
             const char letter = proof[at++];
-            if (letter != 'a' && letter != 'd') stop("the binary proof has a step that is neither a nor d");
+            if (letter != 'a' && letter != 'd')
+                stop("the binary proof has a step that is neither a nor d");
             literals.clear();
             for (;;) {
                 std::uint64_t code = 0;
                 for (unsigned shift = 0;; shift += 7) {
-                    if (at == proof.size() || shift > 28) stop("the binary proof ends within a step");
+                    if (at == proof.size() || shift > 28)
+                        stop("the binary proof ends within a step");
                     const auto byte = std::uint8_t(proof[at++]);
                     code |= std::uint64_t(byte & 127) << shift;
                     if (byte < 128) break;
                 }
                 if (code == 0) break;
-                if (code < 2 || code > 1999999999) stop("the binary proof has a literal out of range");
+                if (code < 2 || code > 1999999999)
+                    stop("the binary proof has a literal out of range");
                 const int variable = int(code / 2);
                 literals.push_back(code % 2 == 0 ? variable : -variable);
             }
@@ -397,6 +405,11 @@ class Reader {
 
     std::uint32_t add(std::vector<int>& literals) {
         sort(literals);
+        for (int literal : literals) {
+            // a refutation names no other variables either
+            if (std::abs(literal) > clauses_.last_variable())
+                stop("a variable above the clause file's last: " + std::to_string(literal));
+        }
         const std::uint32_t c = clauses_.add(literals);
         standing_.emplace(key(literals), c);
         return c;
@@ -448,7 +461,10 @@ class Reader {
 class Converter {
   public:
     Converter(Clauses& clauses, std::vector<Step> steps)
-        : clauses_(clauses), file_count_(clauses.count()), steps_(std::move(steps)) {
+        : clauses_(clauses),
+          file_count_(clauses.count()),
+          steps_(std::move(steps)),
+          needed_(std::size_t(clauses.last_variable()) + 1, false) {
         for (const Step& step : steps_) {
             if (!step.deletion) file_count_--;
         }
@@ -517,7 +533,8 @@ class Converter {
             clauses_.assign(-*literal, none);
         }
         const std::uint32_t conflict = clauses_.find_conflict();
-        if (conflict == none) stop("a clause of the proof does not follow by propagation: " + shown(c));
+        if (conflict == none)
+            stop("a clause of the proof does not follow by propagation: " + shown(c));
 
         // From the conflict back along the trail: what was needed of it.
         std::vector<std::uint32_t> hints{conflict};
@@ -533,7 +550,8 @@ class Converter {
 
         Clause& clause = clauses_[c];
         int* const first = clauses_.begin(c);
-        int* const last = std::partition(first, clauses_.end(c), [this](int l) { return is_needed(l); });
+        int* const last =
+            std::partition(first, clauses_.end(c), [this](int l) { return is_needed(l); });
         clause.size = std::uint32_t(last - first);
         clause.hints = hints_.size();
         clause.hint_count = std::uint32_t(hints.size());
@@ -566,17 +584,13 @@ class Converter {
     void need(std::uint32_t c) {
         for (const int* literal = clauses_.begin(c); literal != clauses_.end(c); literal++) {
             const std::size_t variable = std::size_t(std::abs(*literal));
-            if (needed_.size() <= variable) needed_.resize(variable + 1, false);
             if (needed_[variable]) continue;
             needed_[variable] = true;
             needed_variables_.push_back(int(variable));
         }
     }
 
-    bool is_needed(int literal) const {
-        const std::size_t variable = std::size_t(std::abs(literal));
-        return variable < needed_.size() && needed_[variable];
-    }
+    bool is_needed(int literal) const { return needed_[std::size_t(std::abs(literal))]; }
 
     bool write(std::size_t limit, std::string& text) const;
 

@@ -39,7 +39,8 @@ class Text {
         if (file < 0) return;
         struct stat about;
         if (fstat(file, &about) == 0 && S_ISREG(about.st_mode) && about.st_size > 0) {
-            void* place = mmap(nullptr, std::size_t(about.st_size), PROT_READ, MAP_PRIVATE, file, 0);
+            void* place =
+                mmap(nullptr, std::size_t(about.st_size), PROT_READ, MAP_PRIVATE, file, 0);
             if (place != MAP_FAILED) {
                 bytes_ = static_cast<const std::uint8_t*>(place);
                 length_ = std::size_t(about.st_size);
@@ -88,7 +89,8 @@ std::size_t adding_lines(std::string_view text) {
         const std::size_t end = text.find('\n');
         const std::string_view line = text.substr(0, end);
         const std::size_t space = line.find(' ');
-        const bool deletion = space != line.npos && space + 1 < line.size() && line[space + 1] == 'd';
+        const bool deletion =
+            space != line.npos && space + 1 < line.size() && line[space + 1] == 'd';
         if (!deletion) count++;
         text.remove_prefix(end == text.npos ? text.size() : end + 1);
     }
@@ -106,7 +108,8 @@ void print_network(const std::uint8_t network[24]) {
     std::printf("sink %u\n", unsigned(labels[2 * r + 1]));
 }
 
-void print_report(unsigned k, std::uint32_t verdict, std::uint32_t number, const std::uint8_t network[24]) {
+void print_report(unsigned k, std::uint32_t verdict, std::uint32_t number,
+                  const std::uint8_t network[24]) {
     if (verdict == NK_LEAST) {
         std::printf("least %u\n", k);
         print_network(network);
