@@ -32,7 +32,7 @@ fn main() {
         refuse(1);
         return;
     }
-    match request::read::read_request(&input[..got]) {
+    match request_line::read_request(&input[..got]) {
         Reading::Taken(q) => write(q),
         Reading::Refused(x) => refuse(x),
     }

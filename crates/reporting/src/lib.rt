@@ -21,7 +21,7 @@ pub fn report(
     ensures text { λ t. ⌜ shown t ≡ reportText (now (request .entry)) (now (answer .entry)) (now (refutation .entry)) (lent (now (literals .entry)) (now (pairs .entry)) (now (added .entry)) (now (values .entry))) ⌝ }
     ensures slices { λ t. ⌜ lent (now (literals .exit)) (now (pairs .exit)) (now (added .exit)) (now (values .exit)) ≡ reportLeaves (now (request .entry)) (now (answer .entry)) (now (refutation .entry)) (lent (now (literals .entry)) (now (pairs .entry)) (now (added .entry)) (now (values .entry))) ⌝ }
 {
-    match request::read::read_request(request) {
+    match request_line::read_request(request) {
         Reading::Refused(number) => reports::refused_text(number),
         Reading::Taken(q) => {
             let settled = settle::settle(q, answer, refutation, literals, pairs, added, values);

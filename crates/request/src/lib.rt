@@ -3,7 +3,6 @@
 // A request is n inputs, the table of 2^n rows as a number whose bit k is row k, r switches and the series bound M. It goes in
 // and out by value: it is four small numbers, and no operation changes one that it is given.
 pub mod numbers;
-pub mod read;
 
 pub struct Request {
     pub n: u8,

@@ -4,10 +4,10 @@ use mathlib.Core.Path.{sym}
 use Prim.Native.Nat.{_+_}
 use native.Mathlib.Omega.{arith}
 use borrow.Author.Needs.{needs}
 use Rattle.request.specs.Line.Laws.{run-inside, run-yes, run-no, form-first, form-second, form-third, form-fourth, form-longer, form-line, form-ends}
 use Rattle.request.specs.Line.{Run}
-use Rattle.request.proofs.read.read_request.Statement.{statement}
-use Rattle.request.proofs.read.read_request.Tie as tie
+use Rattle.request_line.proofs.read_request.Statement.{statement}
+use Rattle.request_line.proofs.read_request.Tie as tie
 
 -- each run, past the test of its end
 first : (c : tie.Else1) → Run (c .before .before .before .before .args .text .now) 0 (c .before .before .run-end .result) 32

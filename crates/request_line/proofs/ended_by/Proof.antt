@@ -2,9 +2,9 @@
 use mathlib.Core.Path.{sym}
 use native.Mathlib.Omega.{arith}
 use borrow.Author.Needs.{needs}
 use Rattle.request.specs.Line.Laws.{ended-empty, ended-past, ended-byte}
-use Rattle.request.proofs.read.ended_by.Statement.{statement}
-use Rattle.request.proofs.read.ended_by.Tie as tie
+use Rattle.request_line.proofs.ended_by.Statement.{statement}
+use Rattle.request_line.proofs.ended_by.Tie as tie
 
 returns : tie.Need-returns
 returns c = sym (ended-empty _ _ _ _ (omega arith))

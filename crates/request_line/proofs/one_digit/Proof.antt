@@ -2,9 +2,9 @@
 use mathlib.Core.Path.{sym}
 use native.Mathlib.Omega.{arith}
 use borrow.Author.Needs.{needs}
 use Rattle.request.specs.Line.Laws.{single-long, single-one, digit-least}
-use Rattle.request.proofs.read.one_digit.Statement.{statement}
-use Rattle.request.proofs.read.one_digit.Tie as tie
+use Rattle.request_line.proofs.one_digit.Statement.{statement}
+use Rattle.request_line.proofs.one_digit.Tie as tie
 
 sub-if1 : tie.Need-sub-if1
 sub-if1 c = search needs

@@ -4,12 +4,12 @@ use mathlib.Core.Bool.{true}
 use Prim.Native.Nat.{_+_}
 use native.Mathlib.Omega.{arith}
 use borrow.Author.Needs.{needs}
 use Rattle.request.specs.Line.Laws.{numbers-low, numbers-high, numbers-table, numbers-r, numbers-m, numbers-good, table-length, table-bits}
 use borrow.Author.Tests.{not-true, not-false}
 use Rattle.request.specs.Line.{isTable}
 use Rattle.request.specs.Numbers.Laws.{rows-high}
-use Rattle.request.proofs.read.numbers_at.Statement.{statement}
-use Rattle.request.proofs.read.numbers_at.Tie as tie
+use Rattle.request_line.proofs.numbers_at.Statement.{statement}
+use Rattle.request_line.proofs.numbers_at.Tie as tie
 
 -- the run is a table, past its test
 is-table : (c : tie.Else3) → isTable (c .before .before .before .before .before .before .args .text .now) (c .before .before .before .before .before .before .args .a + 1) (c .before .before .before .before .before .before .args .b) (c .before .before .before .before .one-digit .result) ≡ true

@@ -5,10 +5,10 @@ use Prim.Native.Nat.{ℕ, _-_, _≤_, _<_}
 use native.Mathlib.Omega.{arith}
 use lib.ListN.{getD}
 use borrow.Author.Needs.{needs}
 use Rattle.request.specs.Line.{tableAt}
 use Rattle.request.specs.Line.Laws.{table-none, table-front, table-word, bits-byte}
-use Rattle.request.proofs.read.table_value.Statement.{statement}
-use Rattle.request.proofs.read.table_value.Tie as tie
+use Rattle.request_line.proofs.table_value.Statement.{statement}
+use Rattle.request_line.proofs.table_value.Tie as tie
 
 abbrev Inv-loop : tie.InvT-loop
 Inv-loop text from end value₀ i₀ value i = (from ≤ i) × (i ≤ end) × (value ≡ tableAt text i (end - i))

@@ -3,11 +3,11 @@ use mathlib.Core.Path.{_≡_, sym, _∙_, subst}
 use Prim.Native.Nat.{_-_, _^_, _≤_}
 use native.Mathlib.Omega.{arith}
 use borrow.Author.Needs.{needs}
 use Rattle.request.specs.Line.{Bits}
 use Rattle.request.specs.Line.Laws.{table-size, table-other, table-yes, bits-none, bits-more}
 use Rattle.request.specs.Numbers.Laws.{rows-shl}
-use Rattle.request.proofs.read.is_table.Statement.{statement}
-use Rattle.request.proofs.read.is_table.Tie as tie
+use Rattle.request_line.proofs.is_table.Statement.{statement}
+use Rattle.request_line.proofs.is_table.Tie as tie
 
 abbrev Inv-loop : tie.InvT-loop
 Inv-loop text from end n i₀ i = (from ≤ i) × (i ≤ end) × Bits text from i

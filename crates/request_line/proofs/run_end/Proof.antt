@@ -4,10 +4,10 @@ use Prim.Native.Nat.{_-_}
 use native.Mathlib.Omega.{arith}
 use lib.ListN.{length}
 use borrow.Author.Needs.{needs}
 use Rattle.request.specs.Line.{runEnd}
 use Rattle.request.specs.Line.Laws.{run-low, run-high, run-past, run-next}
-use Rattle.request.proofs.read.run_end.Statement.{statement}
-use Rattle.request.proofs.read.run_end.Tie as tie
+use Rattle.request_line.proofs.run_end.Statement.{statement}
+use Rattle.request_line.proofs.run_end.Tie as tie
 
 abbrev Inv-loop : tie.InvT-loop
 Inv-loop text from i₀ i = runEnd text from ≡ runEnd text i

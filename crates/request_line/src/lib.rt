@@ -1,11 +1,11 @@
 // Reading a request from bytes of any content and length. The line's form is tested whole before any of its numbers: 1 unless
 // it is four non-empty runs of digits with one space between and a newline last. Then n, the table, r and M, in this order.
-use crate::Reading;
-use crate::Request;
+use request::Reading;
+use request::Request;
 ghost use mathlib.Core.Path.{_≡_};
 ghost use Prim.Native.Nat.{_-_, _≤_, _<_};
 ghost use lib.ListN.{length};
 ghost use Rattle.request.specs.Line.{runEnd, endedBy, single, isTable, tableAt, numbersOf, requestOf, Digits, Bits, Ends};
 
 // The end of the run of digits that starts at from.
 fn run_end(text: &[u8], from: usize) -> usize
