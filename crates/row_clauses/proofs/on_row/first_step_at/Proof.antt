@@ -1,4 +1,8 @@
 -- The code is the definition, by the law of the clause at a number. Assumes nothing.
+use mathlib.Core.Path.{sym, ap, ap₂, _∙_}
+use mathlib.Core.List.{[], _∷_}
+use Rattle.cnf.specs.Cnf.{pos, neg}
+use Rattle.cnf.specs.declared.Literal.{Literal}
 use Rattle.formula.specs.Formula.OnRow.{first-at}
 use borrow.Author.Needs.{needs}
 use Rattle.row_clauses.proofs.on_row.first_step_at.Statement.{statement}
@@ -20,7 +24,11 @@ positive-requires : tie.Need-positive-requires
 positive-requires c κs = search needs
 
 returns : tie.Need-returns
-returns c = cc (first-at _ _ _ (c .before .before .before .before .pre .2))
+returns c =
+    let e = c .before .before .before in
+    ap₂ (λ (x y : Literal). x ∷ y ∷ []) (c .before .before .negative .ensures ∙ ap neg (e .entered .ensures .0))
+    (c .positive .ensures ∙ ap pos (c .before .joined .ensures))
+    ∙ sym (first-at _ _ _ (e .before .pre .2))
 
 pub first-step-at-spec : {M : Type 1} → statement M
 first-step-at-spec =

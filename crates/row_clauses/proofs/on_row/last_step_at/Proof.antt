@@ -1,4 +1,11 @@
 -- The code is the definition, by the law of the clause at a number. Assumes nothing.
+use mathlib.Core.Path.{sym, ap, ap₂, _∙_}
+use mathlib.Core.List.{[], _∷_}
+use Rattle.cnf.specs.Cnf.{pos, neg}
+use Rattle.cnf.specs.declared.Literal.{Literal}
+use Prim.Native.Nat.{ℕ}
+use Rattle.network.specs.Networks.{sink}
+use Rattle.formula.specs.Formula.{X}
 use Rattle.formula.specs.Formula.OnRow.{last-at}
 use borrow.Author.Needs.{needs}
 use Rattle.row_clauses.proofs.on_row.last_step_at.Statement.{statement}
@@ -29,7 +36,12 @@ positive-requires : tie.Need-positive-requires
 positive-requires c κs = search needs
 
 returns : tie.Need-returns
-returns c = cc (last-at _ _ _ _ (c .before .before .before .before .before .pre .4))
+returns c =
+    let o = c .before .before in
+    let e = o .before .before in
+    ap₂ (λ (x y : Literal). x ∷ y ∷ []) (o .before .negative .ensures ∙ ap neg (e .entered .ensures .0))
+    (c .positive .ensures ∙ ap pos (c .before .joined .ensures ∙ ap (λ (i : ℕ). X (e .before .args .r) i (sink (e .before .args .r))) (o .other-end .ensures .0)))
+    ∙ sym (last-at _ _ _ _ (e .before .pre .4))
 
 pub last-step-at-spec : {M : Type 1} → statement M
 last-step-at-spec =

@@ -1,7 +1,12 @@
 -- Step, end and place are the three digits of the number; the place among the ends but one gives g. Assumes nothing.
+use mathlib.Core.List.{List, [], _∷_}
+use Prim.Native.Nat.{ℕ}
+use Rattle.cnf.specs.Cnf.{pos, neg}
+use Rattle.cnf.specs.declared.Literal.{Literal}
+use Rattle.formula.specs.Formula.{X}
 use Rattle.prelude.specs.Blocks.Laws.{digits-low}
 use Rattle.formula.specs.Formula.OnRow.{square-most, link-follows, link-at}
-use mathlib.Core.Path.{sym, _∙_}
+use mathlib.Core.Path.{sym, ap, ap₂, _∙_}
 use mathlib.Core.Logic.{inl, inr, ⊎-elim}
 use native.Mathlib.Omega.{arith}
 use borrow.Author.Needs.{needs}
@@ -85,7 +90,13 @@ returns c =
     let s = c .before .before .before .before .before .before .before .before in
     let f = link-follows (s .args .r) (s .args .m) (s .args .before) (s .args .number) _ (c .before .before .before .before .before .before .if1 .g) (s .pre .3) (c .before .before .before .before .before .before .before .other-end .ensures .0)
     (⊎-elim (λ t. inl (t .0 .taken, t .1)) (λ t. inr (t .0 .left, t .1)) (c .before .before .before .before .before .before .if1 .came)) in
-    cc (link-at (s .args .r) (s .args .m) (s .args .before) (s .args .number) (c .before .before .before .before .before .before .if1 .g) (s .pre .3) f)
+    let w = c .before .before in
+    let u = w .before .before in
+    let g = c .before .before .before .before .before .before .if1 .g in
+    ap₂ (λ (x : Literal) (l : List Literal). x ∷ l) (u .negative .ensures ∙ ap neg (u .before .entered .ensures .0))
+    (ap₂ (λ (y z : Literal). y ∷ z ∷ []) (w .negative2 .ensures ∙ ap neg (w .before .entered2 .ensures .0))
+    (c .positive .ensures ∙ ap pos (c .before .joined .ensures ∙ ap (λ (i : ℕ). X (s .args .r) i g) (c .before .before .before .before .before .before .before .other-end .ensures .0))))
+    ∙ sym (link-at (s .args .r) (s .args .m) (s .args .before) (s .args .number) g (s .pre .3) f)
 
 pub link-step-at-spec : {M : Type 1} → statement M
 link-step-at-spec =

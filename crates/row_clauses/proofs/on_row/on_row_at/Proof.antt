@@ -1,6 +1,11 @@
 -- The parts of the row stand one after the other; in each the part's own law holds. Assumes nothing.
+use mathlib.Core.List.{[], _∷_}
+use Prim.Native.Nat.{ℕ, _+_, _*_}
+use Rattle.cnf.specs.Cnf.{pos}
+use Rattle.cnf.specs.declared.Literal.{Literal}
+use Rattle.formula.specs.Clause.{run}
 use Rattle.formula.specs.Formula.OnRow.{clauses-some, row-most, some-at, row-none-at, row-some-at, row-closed-at, row-first-at, row-link-at, row-last-at}
-use mathlib.Core.Path.{sym, _∙_}
+use mathlib.Core.Path.{sym, ap, _∙_}
 use native.Mathlib.Omega.{arith}
 use borrow.Author.Needs.{needs}
 use Rattle.row_clauses.proofs.on_row.on_row_at.Statement.{statement}
@@ -21,7 +26,8 @@ positive-requires c κs = search needs
 returns : tie.Need-returns
 returns c =
     let s = c .before .before .before in
-    cc (row-none-at (s .args .n) (s .args .r) (s .args .m) (s .args .before) (s .args .k) (s .args .number) (c .before .before .if1 .taken) (s .pre .6))
+    ap (λ (x : Literal). x ∷ []) (c .positive .ensures ∙ ap pos (c .before .joined .ensures))
+    ∙ sym (row-none-at (s .args .n) (s .args .r) (s .args .m) (s .args .before) (s .args .k) (s .args .number) (c .before .before .if1 .taken) (s .pre .6))
 
 add-entered : tie.Need-add-entered
 add-entered c = search needs
@@ -39,10 +45,9 @@ returns-2 : tie.Need-returns-2
 returns-2 c =
     let s = c .before .before .before in
     let l = c .before .if2 .taken in
-    cc (
-      row-some-at (s .args .n) (s .args .r) (s .args .m) (s .args .before) (s .args .k) (omega arith) (s .pre .1) (s .pre .5) (s .args .number) l,
-      some-at (s .args .r) (s .args .m) (s .args .before) (s .args .number) l,
-    )
+    ap (λ (x : ℕ). run x (2 * s .args .r + 1)) (c .entered .ensures .0)
+    ∙ sym (row-some-at (s .args .n) (s .args .r) (s .args .m) (s .args .before) (s .args .k) (omega arith) (s .pre .1) (s .pre .5) (s .args .number) l
+    ∙ some-at (s .args .r) (s .args .m) (s .args .before) (s .args .number) l)
 
 mul-closed : tie.Need-mul-closed
 mul-closed c = search needs
