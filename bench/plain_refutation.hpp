@@ -1,6 +1,6 @@
 // A plain C++ check of a refutation, to time the proved one against: the same formula, the same lent slices, the same rules, the
-// clauses that a text adds left in the text. A line is looked at twice, first its form and then what it does; the variables that it
-// set are kept in a list and unset afterwards.
+// clauses that a text adds left in the text. A line is looked at twice, first its form and then what it does, when its numbers can
+// be read without tests; the variables that it set are kept in a list and unset afterwards.
 #pragma once
 
 #include <cstddef>
@@ -9,64 +9,62 @@
 
 namespace plain {
 
-struct Number {
-    bool there;
-    bool negative;
-    std::uint32_t value;
-};
-
 class Check {
 public:
     Check(const std::uint8_t *text, std::size_t size, const std::int32_t *literals, const std::uint32_t *pairs,
           std::uint32_t clauses, std::uint32_t variables, std::uint32_t *added, std::size_t places, std::uint8_t *values)
-        : text_(text), end_(text + size), literals_(literals), pairs_(pairs), clauses_(clauses), variables_(variables),
-          added_(added), places_(places), values_(values) {
+        : text_(text), end_(text + size), lines_end_(end_), literals_(literals), pairs_(pairs), clauses_(clauses),
+          variables_(variables), added_(added), places_(places), values_(values) {
         set_.reserve(variables + 1);
+        // A line that has its newline is looked at without tests for the text's end; one that has none is a fault in any case.
+        while (lines_end_ > text_ && lines_end_[-1] != '\n') --lines_end_;
     }
 
     // 0 for "none", else the refusal.
     int run() {
         const std::uint8_t *at = text_;
-        while (at < end_) {
+        while (at < lines_end_) {
             const int code = line(at);
             if (code >= 0) return code;
         }
-        return 23;
+        return at < end_ ? 16 : 23;
     }
 
     std::uint32_t count() const { return count_; }
 
 private:
-    // Reads a number of at most nine digits and moves past it.
-    Number number(const std::uint8_t *&p, bool signs) const {
-        Number x{false, false, 0};
-        if (signs && p < end_ && *p == '-') {
-            x.negative = true;
-            ++p;
-        }
+    static bool is_digit(std::uint8_t c) { return static_cast<std::uint8_t>(c - '0') < 10; }
+
+    // Moves past a number of at most nine digits; false where none of the form stands there.
+    static bool form(const std::uint8_t *&p, bool signs) {
+        const bool negative = signs && *p == '-';
+        if (negative) ++p;
         const std::uint8_t *const first = p;
-        while (p < end_ && p - first < 9 && static_cast<std::uint8_t>(*p - '0') < 10) {
-            x.value = x.value * 10 + static_cast<std::uint32_t>(*p - '0');
-            ++p;
-        }
-        if (p == first) return x;
-        if (*first == '0' && (p - first > 1 || x.negative)) return x;
-        x.there = true;
-        return x;
+        while (is_digit(*p)) ++p;
+        if (p == first || p - first > 9) return false;
+        return *first != '0' || (p - first == 1 && !negative);
     }
 
     // The form of numbers with a space before each and a 0 last; `last` is where the one before the 0 ends.
-    bool run_of(const std::uint8_t *&p, bool signs, const std::uint8_t *&last) const {
-        last = p;
+    static bool run_of(const std::uint8_t *&p, bool signs, const std::uint8_t *&last) {
         for (;;) {
-            if (p == end_ || *p != ' ') return false;
-            ++p;
-            const Number x = number(p, signs);
-            if (!x.there) return false;
-            if (x.value == 0) return true;
             last = p;
+            if (*p != ' ') return false;
+            const std::uint8_t *const first = ++p;
+            if (!form(p, signs)) return false;
+            if (*first == '0') return true;
         }
     }
+
+    // Reads digits and moves past them.
+    static std::uint32_t read(const std::uint8_t *&p) {
+        std::uint32_t value = 0;
+        for (; is_digit(*p); ++p) value = value * 10 + static_cast<std::uint32_t>(*p - '0');
+        return value;
+    }
+
+    // The next of the numbers of a line whose form is good, after its space.
+    static std::uint32_t next(const std::uint8_t *&p) { return read(++p); }
 
     bool stands(std::uint32_t id) const {
         if (id <= clauses_) return true;
@@ -120,21 +118,21 @@ private:
         if (id != clauses_ + count_ + 1) return 17;
         const std::uint8_t *p = first;
         for (;;) {
-            ++p;
-            const Number x = number(p, true);
-            if (x.value == 0) break;
-            if (x.value > variables_ || values_[x.value] != 0) return 18;
-            assign(x.value, x.negative ? 2 : 1);
+            const bool negative = p[1] == '-';
+            if (negative) ++p;
+            const std::uint32_t variable = next(p);
+            if (variable == 0) break;
+            if (variable > variables_ || values_[variable] != 0) return 18;
+            assign(variable, negative ? 2 : 1);
         }
         const bool empty = last == first;
         if (!empty && places_ < 2 * static_cast<std::size_t>(count_) + 2) return 22;
         p = hints;
         for (;;) {
-            ++p;
-            const Number x = number(p, false);
-            if (x.value == 0) return 21;
-            if (!stands(x.value)) return 19;
-            const int code = hint(x.value);
+            const std::uint32_t named = next(p);
+            if (named == 0) return 21;
+            if (!stands(named)) return 19;
+            const int code = hint(named);
             if (code == 20) return 20;
             if (code == 0) break;
         }
@@ -148,30 +146,30 @@ private:
     // Follows a line: -1 to go on, with `at` at the next one.
     int line(const std::uint8_t *&at) {
         const std::uint8_t *p = at;
-        const Number id = number(p, false);
-        if (!id.there || end_ - p < 2 || *p != ' ') return 16;
+        if (!form(p, false) || *p != ' ') return 16;
+        const std::uint8_t *digits = at;
+        const std::uint32_t id = read(digits);
         const std::uint8_t *last;
         if (p[1] == 'd') {
             const std::uint8_t *const ids = p + 2;
             p = ids;
-            if (!run_of(p, false, last) || p == end_ || *p != '\n') return 16;
+            if (!run_of(p, false, last) || *p != '\n') return 16;
             at = p + 1;
             p = ids;
             for (;;) {
-                ++p;
-                const Number x = number(p, false);
-                if (x.value == 0) return -1;
-                if (!stands(x.value)) return 19;
-                if (x.value > clauses_) added_[2 * (x.value - clauses_ - 1) + 1] = 0;
+                const std::uint32_t named = next(p);
+                if (named == 0) return -1;
+                if (!stands(named)) return 19;
+                if (named > clauses_) added_[2 * (named - clauses_ - 1) + 1] = 0;
             }
         }
         const std::uint8_t *const first = p;
         const std::uint8_t *stop;
         if (!run_of(p, true, last)) return 16;
         const std::uint8_t *const hints = p;
-        if (!run_of(p, false, stop) || p == end_ || *p != '\n') return 16;
+        if (!run_of(p, false, stop) || *p != '\n') return 16;
         at = p + 1;
-        const int code = addition(id.value, first, last, hints);
+        const int code = addition(id, first, last, hints);
         for (const std::uint32_t variable : set_) values_[variable] = 0;
         set_.clear();
         return code;
@@ -179,6 +177,7 @@ private:
 
     const std::uint8_t *text_;
     const std::uint8_t *end_;
+    const std::uint8_t *lines_end_;
     const std::int32_t *literals_;
     const std::uint32_t *pairs_;
     std::uint32_t clauses_;

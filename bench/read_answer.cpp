@@ -1,10 +1,11 @@
 // How long reading an answer takes, by the answer's length: one line of numbers, and many lines of one number each.
 // Prints nanoseconds for each byte at four lengths; they stay near each other where reading is linear.
-#include <chrono>
 #include <cstdio>
 #include <string>
 
-#include "../host/nordkelch.h"
+#include "nordkelch.h"
+
+#include "timing.hpp"
 
 // An answer to "1 01 1 1" whose last variable, 15, is named count times more.
 static std::string answer(unsigned count, const char* between) {
@@ -17,16 +18,15 @@ static std::string answer(unsigned count, const char* between) {
 }
 
 static double nanoseconds_per_byte(const std::string& text) {
-    double best = 0;
-    for (int turn = 0; turn < 3; turn++) {
-        const auto start = std::chrono::steady_clock::now();
-        const unsigned refusal =
-            nk_test_answer(1, 2, 1, 1, reinterpret_cast<const uint8_t*>(text.data()), text.size());
-        const std::chrono::duration<double, std::nano> time = std::chrono::steady_clock::now() - start;
-        if (refusal != 0) std::printf("refused %u\n", refusal);
-        if (turn == 0 || time.count() < best) best = time.count();
+    double best = 1e9;
+    unsigned refusal = 0;
+    for (int turn = turns_for(text.size()); turn > 0; turn--) {
+        best = std::min(best, milliseconds([&] {
+            refusal = nk_test_answer(1, 2, 1, 1, reinterpret_cast<const uint8_t*>(text.data()), text.size());
+        }));
     }
-    return best / double(text.size());
+    if (refusal != 0) std::printf("refused %u\n", refusal);
+    return nanoseconds_a_byte(best, text.size());
 }
 
 int main() {

@@ -11,17 +11,15 @@
 #include <algorithm>
 #include <cstdint>
 #include <cstdio>
-#include <cstdlib>
-#include <fstream>
-#include <iterator>
-#include <memory>
 #include <string>
 #include <utility>
 #include <vector>
 
 #include "../second/answers.hpp"
+#include "files.hpp"
+#include "guarded.hpp"
 #include "checks.hpp"
-#include "../../host/nordkelch.h"
+#include "nordkelch.h"
 
 namespace {
 
@@ -31,12 +29,11 @@ Random random_numbers(20240608);
 // Calls of the library
 // ---------------------------------------------------------------------------
 
-// The text is handed over in an array of its own, of exactly its size.
+Guarded guarded;
+
 std::uint32_t call_answer(const Request& q, const std::string& text) {
-    const std::unique_ptr<std::uint8_t[]> bytes(new std::uint8_t[text.size()]);
-    std::copy(text.begin(), text.end(), bytes.get());
     return nk_test_answer(std::uint8_t(q.n), std::uint16_t(q.table), std::uint8_t(q.r),
-                          std::uint8_t(q.m), bytes.get(), text.size());
+                          std::uint8_t(q.m), guarded.put(text), text.size());
 }
 
 // One text: the library and the second implementation give one number.
@@ -522,23 +519,87 @@ void group_damaged() {
 }
 
 // ---------------------------------------------------------------------------
+// Long answers
+// ---------------------------------------------------------------------------
+
+// Variables that may be named again: W, Z and S, those after the last L.
+std::string again(const Request& q) {
+    unsigned V = 0, C = 0, T = 0;
+    second::counts(q, V, C, T);
+    const std::size_t first = std::size_t(second::last_X_or_L(q)) + 1;
+    const std::size_t x = first + random_numbers.below(V - first + 1);
+    return (random_numbers.below(2) == 0 ? "-" : "") + std::to_string(x);
+}
+
+// An answer of about so many bytes: many numbers on a line, few, or long c
+// lines between.
+std::string long_answer(const Request& q, std::size_t bytes, std::size_t kind) {
+    Made made;
+    make_network(q, made);
+    std::vector<int> all = make_values(q, made, 0);
+    shuffle(all);
+    std::string text = s + "v";
+    for (int number : all) {
+        // what is left of the length is shared out between the numbers
+        const std::size_t stop = text.size() + bytes / (all.size() + 1);
+        while (text.size() < stop) {
+            text += " " + again(q);
+            if (kind == 1 && random_numbers.below(3) == 0) text += "\nv";
+            if (kind == 2 && random_numbers.below(200) == 0) {
+                text += "\nc" + std::string(random_numbers.below(5000), 'v') + "\nv";
+            }
+            if (text.back() == 'v') text += " " + again(q);
+        }
+        text += " " + std::to_string(number);
+    }
+    return text + " 0\n";
+}
+
+// Answers of megabytes, as they are, with a bad variable before the 0 at their
+// far end, and with one byte damaged.
+void group_long() {
+    Group group("long answers");
+    std::size_t texts = 0, bytes = 0;
+    const std::size_t sizes[] = {500000, 1000000, 2000000, 8000000};
+    for (std::size_t round = 0; round < 12; round++) {
+        const unsigned n = unsigned(1 + random_numbers.below(4));
+        const Request q = {n, any_table(n), unsigned(random_numbers.below(8)),
+                           unsigned(1 + random_numbers.below(7))};
+        const std::string text = long_answer(q, sizes[round / 3], round % 3);
+        const second::Reading reading = check_same(group, q, text);
+        group.check(reading.refusal == 0, numbers_of(q), "second: refused");
+        unsigned V = 0, C = 0, T = 0;
+        second::counts(q, V, C, T);
+        for (unsigned bad : {V + 1, 1u}) {
+            std::string other = text;
+            other.insert(other.size() - 3, " " + std::to_string(bad));
+            check_number(group, q, other, 10);
+        }
+        const unsigned copies = text.size() > 4000000 ? 1 : 6;
+        for (unsigned copy = 0; copy < copies; copy++) {
+            std::string other = text;
+            other[random_numbers.below(other.size())] = any_byte();
+            check_same(group, q, other);
+        }
+        texts += 3 + copies;
+        bytes += (3 + copies) * text.size();
+    }
+    group.finish();
+    std::printf("%zu long answers with %zu bytes together\n", texts, bytes);
+}
+
+// ---------------------------------------------------------------------------
 // One file
 // ---------------------------------------------------------------------------
 
 // Prints the library's number for the text of a file, and nothing else.
 int read_file(char** words) {
-    std::ifstream in(words[2], std::ios::binary);
-    if (!in) {
+    std::string text;
+    if (!read_text(words[2], text)) {
         std::fprintf(stderr, "answer_test: %s cannot be read\n", words[2]);
         return 2;
     }
-    const std::string text((std::istreambuf_iterator<char>(in)), std::istreambuf_iterator<char>());
-    Request q = {unsigned(std::atoi(words[3])), 0, unsigned(std::atoi(words[5])),
-                 unsigned(std::atoi(words[6]))};
-    const std::string table = words[4];
-    for (std::size_t row = 0; row < table.size() && row < 16; row++) {
-        if (table[row] == '1') q.table |= 1u << row;
-    }
+    const Request q = request_of(words + 3);
     std::printf("%lu\n", static_cast<unsigned long>(call_answer(q, text)));
     return 0;
 }
@@ -556,6 +617,7 @@ void run_all() {
     group_random_requests();
     groups_of_networks();
     group_damaged();
+    group_long();
 }
 
 }  // namespace

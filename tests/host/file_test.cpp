@@ -4,6 +4,8 @@
 //   c++ -std=c++17 -O2 -o file_test file_test.cpp LIBRARY.a
 //   file_test                  runs all groups of checks
 //   file_test --dump FOLDER    writes clause files for solvers, checks only these
+//   file_test --write FOLDER n table r m ...
+//                              the same for these requests, four words for each
 //
 // One line is printed for each group that fails. The last line is
 // "N passed, M failed", in groups. The exit status is 0 only if M is 0.
@@ -17,8 +19,9 @@
 #include <vector>
 
 #include "../second/clauses.hpp"
+#include "files.hpp"
 #include "checks.hpp"
-#include "../../host/nordkelch.h"
+#include "nordkelch.h"
 
 namespace {
 
@@ -578,8 +581,6 @@ void dump_file(const std::filesystem::path& folder, const Request& q) {
 }
 
 void dump(const std::filesystem::path& folder) {
-    std::error_code ignored;
-    std::filesystem::create_directories(folder, ignored);
     for (unsigned n = 1; n <= 4; n++) {
         unsigned k = 0;
         for (const auto& pair : dumped_pairs) {
@@ -607,12 +608,18 @@ void run_all() {
 }  // namespace
 
 int main(int count, char** words) {
-    if (count == 3 && std::string(words[1]) == "--dump") {
+    const std::string mode = count > 2 ? words[1] : "";
+    std::error_code ignored;
+    if (!mode.empty()) std::filesystem::create_directories(words[2], ignored);
+    if (mode == "--dump" && count == 3) {
         dump(words[2]);
+    } else if (mode == "--write" && count % 4 == 3) {
+        for (int k = 3; k < count; k += 4) dump_file(words[2], request_of(words + k));
     } else if (count == 1) {
         run_all();
     } else {
-        std::fprintf(stderr, "usage: file_test [--dump FOLDER]\n");
+        std::fprintf(stderr, "usage: file_test [--dump FOLDER]\n"
+                             "       file_test [--write FOLDER n table r m ...]\n");
         return 2;
     }
     return counts();

@@ -9,6 +9,9 @@
 //                                                words for each), which must be
 //                                                refutations, and on damaged
 //                                                copies of them
+//   refutation_test --long FILE n table r m      compares on texts of up to 16 MB
+//                                                made from the file's, and on
+//                                                damaged copies of them
 //
 // One line is printed for each group that fails. The last line is
 // "N passed, M failed", in groups. The exit status is 0 only if M is 0.
@@ -16,23 +19,22 @@
 #include <algorithm>
 #include <cstdint>
 #include <cstdio>
-#include <cstdlib>
-#include <fstream>
-#include <iterator>
-#include <memory>
 #include <string>
 #include <utility>
 #include <vector>
 
 #include "../second/refutations.hpp"
 #include "checks.hpp"
+#include "files.hpp"
+#include "guarded.hpp"
+#include "lent.hpp"
+#include "long_refutation.hpp"
 #include "made_refutations.hpp"
-#include "../../host/nordkelch.h"
+#include "nordkelch.h"
 
 namespace {
 
 using second::Outcome;
-using second::Slices;
 
 Random random_numbers(20240609);
 
@@ -42,22 +44,6 @@ unsigned long seen[24] = {0};
 // ---------------------------------------------------------------------------
 // Slices
 // ---------------------------------------------------------------------------
-
-struct Lengths {
-    std::size_t literals;
-    std::size_t pairs;
-    std::size_t added;
-    std::size_t values;
-};
-
-// The lengths that are just enough, with places for some added clauses. A
-// refused request has none.
-Lengths exact_lengths(const Request& q, std::size_t additions) {
-    unsigned V = 0, C = 0, T = 0;
-    if (second::refusal(q) != 0) return {0, 0, 2 * additions, 0};
-    second::counts(q, V, C, T);
-    return {T, 2 * std::size_t(C), 2 * additions, std::size_t(V) + 1};
-}
 
 // A length that is enough: the least one in half of the cases.
 std::size_t at_least(std::size_t length) {
@@ -86,112 +72,41 @@ Lengths any_lengths(const Lengths& exact) {
     return lengths;
 }
 
-// What a slice holds before the call: random bits, small numbers, or all 0.
-template <typename Entry>
-std::vector<Entry> any_content(std::size_t length, std::size_t small) {
-    const std::size_t kind = random_numbers.below(5);
-    std::vector<Entry> all(length, Entry(0));
-    if (kind == 0) return all;
-    for (Entry& entry : all) {
-        const std::uint64_t bits = random_numbers.next() >> 16;
-        entry = kind < 3 ? Entry(bits) : Entry(bits % small);
-    }
-    return all;
-}
-
 Slices any_slices(const Lengths& lengths, std::size_t text_size) {
-    return {any_content<std::int32_t>(lengths.literals, 20),
-            any_content<std::uint32_t>(lengths.pairs, 20),
-            any_content<std::uint32_t>(lengths.added, text_size / 2 + 2),
-            any_content<std::uint8_t>(lengths.values, 3)};
+    return any_slices(random_numbers, lengths, text_size);
 }
 
 // ---------------------------------------------------------------------------
 // Calls of the library
 // ---------------------------------------------------------------------------
 
-// A slice inside a larger array. The entries around it must stand.
-template <typename Entry>
-class Lent {
-  public:
-    explicit Lent(const std::vector<Entry>& slice) : length_(slice.size()), all_(2 * margin) {
-        for (Entry& entry : all_) entry = Entry(random_numbers.next() >> 24);
-        edges_ = all_;
-        all_.insert(all_.begin() + margin, slice.begin(), slice.end());
-    }
-
-    Entry* data() { return all_.data() + margin; }
-    std::size_t length() const { return length_; }
-    std::vector<Entry> slice() const { return {all_.begin() + margin, all_.end() - margin}; }
-
-    bool edges_stand() const {
-        return std::equal(edges_.begin(), edges_.begin() + margin, all_.begin()) &&
-               std::equal(edges_.begin() + margin, edges_.end(), all_.end() - margin);
-    }
-
-  private:
-    static constexpr std::ptrdiff_t margin = 8;
-    std::size_t length_;
-    std::vector<Entry> all_;
-    std::vector<Entry> edges_;
-};
-
 // What the library made of copies of the slices.
 struct Call {
-    Outcome outcome;
-    bool edges_stand;
+    std::uint32_t number;
+    std::uint32_t count;
+    LentSlices slices;
 };
 
-// The text is handed over in an array of its own, of exactly its size.
-Call call_check(const Request& q, const std::string& text, const Slices& slices) {
-    const std::unique_ptr<std::uint8_t[]> bytes(new std::uint8_t[text.size()]);
-    std::copy(text.begin(), text.end(), bytes.get());
-    Lent<std::int32_t> literals(slices.literals);
-    Lent<std::uint32_t> pairs(slices.pairs);
-    Lent<std::uint32_t> added(slices.added);
-    Lent<std::uint8_t> values(slices.values);
-    std::uint32_t count = std::uint32_t(random_numbers.next() >> 32);
-    const std::uint32_t number = nk_check_refutation(
-        std::uint8_t(q.n), std::uint16_t(q.table), std::uint8_t(q.r), std::uint8_t(q.m),
-        bytes.get(), text.size(), literals.data(), literals.length(), pairs.data(), pairs.length(),
-        added.data(), added.length(), values.data(), values.length(), &count);
-    const Slices after = {literals.slice(), pairs.slice(), added.slice(), values.slice()};
-    const bool stand = literals.edges_stand() && pairs.edges_stand() && added.edges_stand() &&
-                       values.edges_stand();
-    return {{int(number), count, after}, stand};
-}
+Guarded guarded;
 
-// Where two slices of one length differ first; nothing when they are equal.
-template <typename Entry>
-std::string difference(const std::string& name, const std::vector<Entry>& have,
-                       const std::vector<Entry>& want) {
-    for (std::size_t i = 0; i < want.size(); i++) {
-        if (have[i] == want[i]) continue;
-        return ", " + name + "[" + std::to_string(i) + "] is " + std::to_string(have[i]) +
-               ", not " + std::to_string(want[i]);
-    }
-    return "";
+Call call_check(const Request& q, const std::string& text, const Slices& slices) {
+    Call call = {0, std::uint32_t(random_numbers.next() >> 32), LentSlices(random_numbers, slices)};
+    LentSlices& lent = call.slices;
+    call.number = nk_check_refutation(
+        std::uint8_t(q.n), std::uint16_t(q.table), std::uint8_t(q.r), std::uint8_t(q.m),
+        guarded.put(text), text.size(), lent.literals.data(), lent.literals.length(),
+        lent.pairs.data(), lent.pairs.length(), lent.added.data(), lent.added.length(),
+        lent.values.data(), lent.values.length(), &call.count);
+    return call;
 }
 
 std::string differences(const Call& call, const Outcome& want) {
-    const Outcome& have = call.outcome;
     std::string all;
-    if (have.number != want.number || have.count != want.count) {
-        all += ", number " + std::to_string(have.number) + " count " + std::to_string(have.count) +
+    if (call.number != std::uint32_t(want.number) || call.count != want.count) {
+        all += ", number " + std::to_string(call.number) + " count " + std::to_string(call.count) +
                ", second " + std::to_string(want.number) + " and " + std::to_string(want.count);
     }
-    all += difference("literals", have.slices.literals, want.slices.literals);
-    all += difference("pairs", have.slices.pairs, want.slices.pairs);
-    all += difference("added", have.slices.added, want.slices.added);
-    all += difference("values", have.slices.values, want.slices.values);
-    if (!call.edges_stand) all += ", an entry outside a slice is written";
-    return all;
-}
-
-std::string lengths_of(const Slices& slices) {
-    return " lengths " + std::to_string(slices.literals.size()) + " " +
-           std::to_string(slices.pairs.size()) + " " + std::to_string(slices.added.size()) + " " +
-           std::to_string(slices.values.size());
+    return all + differences(call.slices, want.slices);
 }
 
 // One text with slices that are filled: the library and the second
@@ -253,9 +168,7 @@ struct Row {
 void group_of_rows(const std::string& name, const std::vector<Row>& rows) {
     Group group(name);
     for (const Row& row : rows) {
-        const std::size_t newlines =
-            std::size_t(std::count(row.text.begin(), row.text.end(), '\n'));
-        const Lengths exact = exact_lengths(p4, newlines);
+        const Lengths exact = exact_lengths(p4, lines_in(row.text));
         check_number(group, p4, row.text, exact, row.number, row.count, row.name);
         for (unsigned round = 0; round < 6; round++) {
             check_number(group, p4, row.text, enough(exact), row.number, row.count, row.name);
@@ -1115,31 +1028,9 @@ void group_numbers_seen() {
 // Files
 // ---------------------------------------------------------------------------
 
-bool read_text(const char* name, std::string& text) {
-    std::ifstream in(name, std::ios::binary);
-    if (!in) {
-        std::fprintf(stderr, "refutation_test: %s cannot be read\n", name);
-        return false;
-    }
-    text.assign((std::istreambuf_iterator<char>(in)), std::istreambuf_iterator<char>());
-    return true;
-}
-
-// The words n, table, r, m, the table's row 0 first.
-Request request_of(char** words) {
-    Request q = {unsigned(std::atoi(words[0])), 0, unsigned(std::atoi(words[2])),
-                 unsigned(std::atoi(words[3]))};
-    const std::string table = words[1];
-    for (std::size_t row = 0; row < table.size() && row < 16; row++) {
-        if (table[row] == '1') q.table |= 1u << row;
-    }
-    return q;
-}
-
 // Slices for a text with as many entries as the second implementation needs.
 Slices just_enough(const Request& q, const std::string& text) {
-    const std::size_t newlines = std::size_t(std::count(text.begin(), text.end(), '\n'));
-    const Slices many = any_slices(exact_lengths(q, newlines), text.size());
+    const Slices many = any_slices(exact_lengths(q, lines_in(text)), text.size());
     const Outcome outcome = second::check_refutation(q, text, many);
     return any_slices(exact_lengths(q, outcome.count), text.size());
 }
@@ -1148,11 +1039,15 @@ Slices just_enough(const Request& q, const std::string& text) {
 // status is 1 if the second implementation has others.
 int check_file(char** words) {
     std::string text;
-    if (!read_text(words[2], text)) return 2;
+    if (!read_text(words[2], text)) {
+        std::fprintf(stderr, "refutation_test: %s cannot be read\n", words[2]);
+        return 2;
+    }
     const Request q = request_of(words + 3);
     const Slices slices = just_enough(q, text);
     const Call call = call_check(q, text, slices);
-    std::printf("%d %lu\n", call.outcome.number, static_cast<unsigned long>(call.outcome.count));
+    std::printf("%lu %lu\n", static_cast<unsigned long>(call.number),
+                static_cast<unsigned long>(call.count));
     const std::string different = differences(call, second::check_refutation(q, text, slices));
     if (different.empty()) return 0;
     std::fprintf(stderr, "refutation_test: %s: %s\n", words[2], different.substr(2).c_str());
@@ -1162,6 +1057,7 @@ int check_file(char** words) {
 // A group for each file: it is a refutation, and damaged copies of it. The
 // copies of a file have about 20,000,000 bytes together.
 int compare_files(int count, char** words) {
+    unsigned long damaged_in_all = 0;
     for (int k = 2; k + 5 <= count; k += 5) {
         Group group(words[k]);
         std::string text;
@@ -1172,12 +1068,53 @@ int compare_files(int count, char** words) {
             const Outcome outcome = check_same(group, q, text, just_enough(q, text));
             group.check(outcome.number == 0, words[k],
                         "second: refused " + std::to_string(outcome.number));
-            const unsigned long copies = 20000000 / (text.size() + 1);
-            check_damaged(group, {q, made_lines_of(text), true},
-                          std::min(3000ul, std::max(3ul, copies)));
+            const unsigned long copies = std::clamp(20000000ul / (text.size() + 1), 3ul, 3000ul);
+            check_damaged(group, {q, made_lines_of(text), true}, copies);
+            damaged_in_all += copies;
         }
         group.finish();
     }
+    std::printf("%d stored refutations, %lu damaged copies of them\n", (count - 2) / 5,
+                damaged_in_all);
+    return counts();
+}
+
+// Texts of megabytes, as they are and with one byte damaged: clauses far apart,
+// ids of many digits, deletions. Damage near the end is found after all lines
+// before it were followed.
+int compare_long(char** words) {
+    struct LongRow {
+        std::size_t bytes;
+        LongRefutation::Hints hints;
+        unsigned damaged;
+    };
+    const LongRow rows[] = {{1500000, LongRefutation::Hints::near, 14},
+                            {3000000, LongRefutation::Hints::far, 10},
+                            {6000000, LongRefutation::Hints::near, 3},
+                            {16777215, LongRefutation::Hints::far, 1}};
+    const Request q = request_of(words + 3);
+    const LongRefutation source(q, text_of_file(words[2]));
+    Group group("long refutations");
+    std::size_t texts = 0, bytes = 0;
+    for (const LongRow& row : rows) {
+        const std::string text = source.text(row.bytes, row.hints);
+        const Lengths exact = exact_lengths(q, lines_in(text));
+        const Outcome outcome = check_same(group, q, text, enough(exact));
+        group.check(outcome.number == 0 && text.size() + 2000 > row.bytes, words[2],
+                    "second: " + std::to_string(outcome.number));
+        for (unsigned copy = 0; copy < row.damaged; copy++) {
+            std::string other = text;
+            // Half of them in the last tenth.
+            const std::size_t part = copy % 2 == 0 ? text.size() / 10 : text.size();
+            const std::size_t place = text.size() - 1 - random_numbers.below(part);
+            other[place] = any_byte_of_refutation(random_numbers);
+            check_same(group, q, other, enough(exact));
+        }
+        texts += 1 + row.damaged;
+        bytes += (1 + row.damaged) * text.size();
+    }
+    group.finish();
+    std::printf("%zu long refutations with %zu bytes together\n", texts, bytes);
     return counts();
 }
 
@@ -1209,11 +1146,13 @@ void run_all() {
 int main(int count, char** words) {
     const std::string mode = count > 1 ? words[1] : "";
     if (count == 7 && mode == "--check") return check_file(words);
+    if (count == 7 && mode == "--long") return compare_long(words);
     if (count > 2 && (count - 2) % 5 == 0 && mode == "--files") return compare_files(count, words);
     if (count != 1) {
         std::fprintf(stderr,
                      "usage: refutation_test [--check FILE n table r m]\n"
-                     "       refutation_test [--files FILE n table r m ...]\n");
+                     "       refutation_test [--files FILE n table r m ...]\n"
+                     "       refutation_test [--long FILE n table r m]\n");
         return 2;
     }
     run_all();

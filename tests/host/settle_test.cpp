@@ -1,134 +1,220 @@
 // Compares nk_settle with the second implementation, on real cells given as files and on damaged copies of them.
 //
-//   settle_test ANSWER REFUTATION n table k m ...
+//   settle_test ANSWER REFUTATION n table k m ...        six words for each cell, which has to come out as "least"
+//   settle_test --verdict ANSWER REFUTATION n table k m  prints the verdict as the report does: "least k", "works k number",
+//                                                        "fails k row" or "refused number"
 //
-// Six words for each cell; the refutation of a cell with k = 0 may be a file that does not exist. A cell as it is given has to come
-// out as "least".
+// A file that does not exist is an empty one; the refutation of a cell with k = 0 is not read.
+#include <algorithm>
 #include <cstdint>
 #include <cstdio>
-#include <cstdlib>
-#include <fstream>
-#include <iterator>
 #include <string>
 #include <vector>
 
 #include "../second/settling.hpp"
+#include "files.hpp"
+#include "guarded.hpp"
+#include "lent.hpp"
+#include "long_refutation.hpp"
 #include "checks.hpp"
-#include "../../host/nordkelch.h"
+#include "nordkelch.h"
 
 namespace {
 
 unsigned long verdicts[4] = {0, 0, 0, 0};
+unsigned long damaged_in_all = 0;
 
-std::string bytes_of(const char* name) {
-    std::ifstream file(name, std::ios::binary);
-    return std::string((std::istreambuf_iterator<char>(file)), std::istreambuf_iterator<char>());
+Random random_numbers(20240610);
+Guarded guarded_answer, guarded_refutation;
+
+struct Cell {
+    Request q;
+    std::string answer;
+    std::string refutation;
+};
+
+// The lengths that the refutation for k - 1 needs, with a place for each of its lines.
+Lengths needed(const Cell& cell) {
+    Request smaller = cell.q;
+    if (smaller.r > 0 && smaller.r <= 8) smaller.r--;
+    return exact_lengths(smaller, lines_in(cell.refutation));
 }
 
-const std::uint8_t* data_of(const std::string& text) { return reinterpret_cast<const std::uint8_t*>(text.data()); }
-
-// Slices with random contents, of the lengths that are needed and `more`, which may be negative.
-second::Slices lend(Random& random, const Request& q, std::size_t lines, int more) {
-    unsigned V = 0, C = 0, T = 0;
-    if (q.n >= 1 && q.n <= 4 && q.r <= 7 && q.m <= 7) second::counts(q, V, C, T);
-    const auto size = [more](std::size_t need) { return more < 0 && need < std::size_t(-more) ? 0 : std::size_t(long(need) + more); };
-    second::Slices slices;
-    for (std::size_t i = size(T); i > 0; i--) slices.literals.push_back(std::int32_t(random.next()));
-    for (std::size_t i = size(2 * C); i > 0; i--) slices.pairs.push_back(std::uint32_t(random.next()));
-    for (std::size_t i = size(2 * lines); i > 0; i--) slices.added.push_back(std::uint32_t(random.next()));
-    for (std::size_t i = size(V + 1); i > 0; i--) slices.values.push_back(std::uint8_t(random.next()));
-    return slices;
-}
-
-unsigned compare(Group& group, const Request& q, const std::string& answer, const std::string& refutation, const second::Slices& lent) {
-    second::Slices slices = lent;
-    std::uint8_t network[24];
-    for (std::uint8_t& byte : network) byte = 170;
-    std::uint32_t number = 12345;
-    const unsigned verdict =
-        nk_settle(std::uint8_t(q.n), std::uint16_t(q.table), std::uint8_t(q.r), std::uint8_t(q.m), data_of(answer), answer.size(),
-                  data_of(refutation), refutation.size(), slices.literals.data(), slices.literals.size(), slices.pairs.data(),
-                  slices.pairs.size(), slices.added.data(), slices.added.size(), slices.values.data(), slices.values.size(),
-                  network, &number);
-    const second::Settlement other = second::settle(q, answer, refutation, lent);
-    const std::string request = numbers_of(q);
-    group.check(verdict == other.verdict, request, "verdict " + std::to_string(verdict) + ", not " + std::to_string(other.verdict));
-    group.check(number == other.number, request, "number " + std::to_string(number) + ", not " + std::to_string(other.number));
-    group.check(std::vector<std::uint8_t>(network, network + 24) == other.network, request, "the network differs");
-    group.check(slices.literals == other.slices.literals && slices.pairs == other.slices.pairs &&
-                    slices.added == other.slices.added && slices.values == other.slices.values,
-                request, "the slices differ");
-    if (verdict < 4) verdicts[verdict]++;
-    return verdict;
+// One call in slices of these lengths, with random contents; the library and the second implementation agree in everything. The
+// answer is the second one's.
+second::Settlement compare(Group& group, const Cell& cell, const Lengths& lengths) {
+    const Request& q = cell.q;
+    const Slices before = any_slices(random_numbers, lengths, cell.refutation.size());
+    LentSlices lent(random_numbers, before);
+    Lent<std::uint8_t> network(random_numbers, any_content<std::uint8_t>(random_numbers, 24, 16));
+    std::uint32_t number = std::uint32_t(random_numbers.next() >> 32);
+    const std::uint32_t verdict =
+        nk_settle(std::uint8_t(q.n), std::uint16_t(q.table), std::uint8_t(q.r), std::uint8_t(q.m),
+                  guarded_answer.put(cell.answer), cell.answer.size(), guarded_refutation.put(cell.refutation),
+                  cell.refutation.size(), lent.literals.data(), lent.literals.length(), lent.pairs.data(), lent.pairs.length(),
+                  lent.added.data(), lent.added.length(), lent.values.data(), lent.values.length(), network.data(), &number);
+    const second::Settlement want = second::settle(q, cell.answer, cell.refutation, before);
+    std::string different = differences(lent, want.slices);
+    if (verdict != want.verdict || number != want.number) {
+        different += ", verdict " + std::to_string(verdict) + " " + std::to_string(number) + ", not " +
+                     std::to_string(want.verdict) + " " + std::to_string(want.number);
+    }
+    if (network.slice() != want.network) different += ", the network differs";
+    if (!network.edges_stand()) different += ", a byte outside the network is written";
+    const bool same = different.empty();
+    group.check(same, same ? "" : numbers_of(q) + lengths_of(before), same ? "" : different.substr(2));
+    verdicts[want.verdict]++;
+    return want;
 }
 
 // One change of a text: a byte changed, left out or put in, or the text cut.
-std::string damaged(Random& random, std::string text) {
+void damage(std::string& text) {
     static const std::string bytes = "0123456789 -\ncvsd";
-    if (text.empty()) return text;
-    const std::size_t place = random.below(text.size());
-    switch (random.below(4)) {
-    case 0: text[place] = bytes[random.below(bytes.size())]; break;
+    if (text.empty()) return;
+    const std::size_t place = random_numbers.below(text.size());
+    switch (random_numbers.below(4)) {
+    case 0: text[place] = bytes[random_numbers.below(bytes.size())]; break;
     case 1: text.erase(place, 1); break;
-    case 2: text.insert(place, 1, bytes[random.below(bytes.size())]); break;
+    case 2: text.insert(place, 1, bytes[random_numbers.below(bytes.size())]); break;
     default: text.resize(place); break;
     }
-    return text;
 }
 
-void cell(char** words) {
-    const std::string answer = bytes_of(words[0]);
-    const std::string refutation = bytes_of(words[1]);
-    Request q;
-    q.n = unsigned(std::atoi(words[2]));
-    q.table = 0;
-    for (unsigned row = 0; words[3][row] != 0; row++)
-        if (words[3][row] == '1') q.table |= 1u << row;
-    q.r = unsigned(std::atoi(words[4]));
-    q.m = unsigned(std::atoi(words[5]));
-    std::size_t lines = 1;
-    for (const char c : refutation) lines += c == '\n';
-    Request smaller = q;
-    smaller.r = q.r == 0 ? 0 : q.r - 1;
-    Random random(q.table * 64 + q.r * 8 + q.m);
+std::size_t changed_by(std::size_t length, int more) {
+    return more < 0 && length < std::size_t(-more) ? 0 : std::size_t(long(length) + more);
+}
 
-    Group least("a cell as it is given is least");
-    least.check(compare(least, q, answer, refutation, lend(random, smaller, lines, 0)) == 0, numbers_of(q), "not least");
-    least.check(compare(least, q, answer, refutation, lend(random, smaller, lines, 7)) == 0, numbers_of(q), "not least in longer slices");
-    least.finish();
+// "works" with 7, 8 or 14 where a slice is too short, the lowest that applies, and 22 where a clause has no place; else "least".
+// Each slice is one entry short, as long as needed and one longer, in all mixtures; and each by itself has every length around the
+// needed one and none at all. A long refutation has fewer of them.
+void group_lengths(const Cell& cell) {
+    Group group("slices of all lengths");
+    const Lengths exact = needed(cell);
+    std::size_t Lengths::*const slices[] = {&Lengths::literals, &Lengths::pairs, &Lengths::added, &Lengths::values};
+    const bool is_long = cell.refutation.size() > 50000;
+    for (int mixture = 0; mixture < (is_long ? 0 : 81); mixture++) {
+        Lengths lengths = exact;
+        int rest = mixture;
+        for (const auto slice : slices) {
+            lengths.*slice = changed_by(exact.*slice, rest % 3 - 1);
+            rest /= 3;
+        }
+        compare(group, cell, lengths);
+    }
+    for (const auto slice : slices) {
+        for (int more = is_long ? -1 : -9; more <= (is_long ? 1 : 9); more++) {
+            Lengths lengths = exact;
+            lengths.*slice = changed_by(exact.*slice, more);
+            const bool least = compare(group, cell, lengths).verdict == 0;
+            if (slice == &Lengths::added) continue;
+            group.check(least == (more >= 0 || cell.q.r == 0), numbers_of(cell.q), "second: verdict");
+        }
+        Lengths lengths = exact;
+        lengths.*slice = 0;
+        compare(group, cell, lengths);
+    }
+    // every length of the added slice, where they are few
+    for (std::size_t length = 0; length <= exact.added + 2 && !is_long && exact.added < 1000; length++) {
+        compare(group, cell, {exact.literals, exact.pairs, length, exact.values});
+    }
+    group.finish();
+}
 
-    Group changed("damaged cells");
-    const unsigned turns = refutation.size() > 20000 ? 400 : 20000;
-    for (unsigned turn = 0; turn < turns; turn++) {
-        Request other = q;
-        std::string a = answer;
-        std::string b = refutation;
-        int more = 0;
-        switch (random.below(6)) {
-        case 0: a = damaged(random, a); break;
-        case 1: b = damaged(random, b); break;
-        case 2: other.table ^= 1u << random.below(17); break;
-        case 3: other.m = unsigned(random.below(9)); break;
-        case 4: more = int(random.below(5)) - 3; break;
-        default:
-            a = damaged(random, a);
-            b = damaged(random, b);
+// Copies with a damaged answer, refutation, table or M, or with slices that are too short. There are fewer of a long refutation.
+void group_damaged(const Cell& cell) {
+    Group group("damaged cells");
+    const std::size_t copies = std::clamp<std::size_t>(60000000 / (cell.refutation.size() + 1), 50, 25000);
+    for (std::size_t copy = 0; copy < copies; copy++) {
+        Cell other = cell;
+        Lengths lengths = needed(cell);
+        switch (random_numbers.below(7)) {
+        case 0: damage(other.answer); break;
+        case 1:
+        case 2: damage(other.refutation); break;
+        case 3: other.q.table ^= 1u << random_numbers.below(16); break;
+        case 4: other.q.m = unsigned(random_numbers.below(9)); break;
+        case 5: {
+            const int more = int(random_numbers.below(5)) - 3;
+            lengths = {changed_by(lengths.literals, more), changed_by(lengths.pairs, more), changed_by(lengths.added, more),
+                       changed_by(lengths.values, more)};
             break;
         }
-        other.table &= 65535u;
-        compare(changed, other, a, b, lend(random, smaller, lines, more));
+        default:
+            damage(other.answer);
+            damage(other.refutation);
+            break;
+        }
+        compare(group, other, lengths);
     }
-    changed.finish();
+    damaged_in_all += copies;
+    group.finish();
+}
+
+// Refutations of megabytes made from the cell's, up to the longest that is read: "least"; "works" with 16 where a byte near the end
+// is damaged; and "works" with 15 one byte past the limit, though that byte would be unread.
+void group_long(const Cell& cell) {
+    Group group("long refutations");
+    const std::size_t most = 16777215;
+    Request smaller = cell.q;
+    smaller.r--;
+    const LongRefutation source(smaller, cell.refutation);
+    Cell longer = cell;
+    for (const std::size_t bytes : {std::size_t(4000000), most}) {
+        longer.refutation = source.text(bytes, LongRefutation::Hints::near);
+        group.check(compare(group, longer, needed(longer)).verdict == 0, numbers_of(cell.q), "second: not least");
+        longer.refutation[longer.refutation.size() - 1 - random_numbers.below(bytes / 20)] = 'x';
+        group.check(compare(group, longer, needed(longer)).number == 16, numbers_of(cell.q), "second: not 16");
+    }
+    longer.refutation = source.text(most, LongRefutation::Hints::far);
+    longer.refutation.resize(most, 'x');
+    group.check(compare(group, longer, needed(longer)).verdict == 0, numbers_of(cell.q), "second: not least at the limit");
+    longer.refutation += 'x';
+    group.check(compare(group, longer, needed(longer)).number == 15, numbers_of(cell.q), "second: not 15 past the limit");
+    group.finish();
+}
+
+void group_least(const Cell& cell) {
+    Group group("a cell as it is given is least");
+    const Lengths exact = needed(cell);
+    for (const Lengths& lengths : {exact, Lengths{exact.literals + 7, exact.pairs + 7, exact.added + 7, exact.values + 7}}) {
+        group.check(compare(group, cell, lengths).verdict == 0, numbers_of(cell.q), "second: not least");
+    }
+    group.finish();
+}
+
+Cell cell_of(char** words) { return {request_of(words + 2), text_of_file(words[0]), text_of_file(words[1])}; }
+
+// Prints the verdict of one cell. The exit status is 1 if the second implementation has another.
+int verdict_of(char** words) {
+    const Cell cell = cell_of(words);
+    Group group("verdict");
+    const second::Settlement settled = compare(group, cell, needed(cell));
+    static const char* const names[] = {"least", "works", "fails", "refused"};
+    std::printf("%s", names[settled.verdict]);
+    if (settled.verdict < 3) std::printf(" %u", cell.q.r);
+    if (settled.verdict > 0) std::printf(" %u", settled.number);
+    std::printf("\n");
+    group.finish();
+    return groups_failed == 0 ? 0 : 1;
 }
 
 } // namespace
 
 int main(int count, char** words) {
+    if (count == 8 && std::string(words[1]) == "--verdict") return verdict_of(words + 2);
     if (count < 7 || (count - 1) % 6 != 0) {
-        std::fprintf(stderr, "usage: settle_test ANSWER REFUTATION n table k m ...\n");
+        std::fprintf(stderr, "usage: settle_test ANSWER REFUTATION n table k m ...\n"
+                             "       settle_test --verdict ANSWER REFUTATION n table k m\n");
         return 2;
     }
-    for (int i = 1; i < count; i += 6) cell(words + i);
-    std::printf("settled: %lu least, %lu works, %lu fails, %lu refused\n", verdicts[0], verdicts[1], verdicts[2], verdicts[3]);
+    for (int i = 1; i < count; i += 6) {
+        const Cell cell = cell_of(words + i);
+        group_least(cell);
+        group_lengths(cell);
+        group_damaged(cell);
+        if (cell.refutation.size() > 900000) group_long(cell);
+    }
+    std::printf("%lu damaged cells; settled: %lu least, %lu works, %lu fails, %lu refused\n", damaged_in_all, verdicts[0],
+                verdicts[1], verdicts[2], verdicts[3]);
     return counts();
 }

@@ -1,0 +1,354 @@
+// Damaged requests: as numbers through every entry of the library, and as texts
+// through the programs; compared with the second implementation.
+//
+//   request_test                        runs all groups of checks on numbers
+//   request_test --programs FILE REPORT FOLDER ANSWER REFUTATION n table k m ...
+//                                       the programs `file` and `report` on
+//                                       damaged texts, with files in FOLDER;
+//                                       six words for each cell to report on
+//
+// One line is printed for each group that fails. The last line is
+// "N passed, M failed", in groups. The exit status is 0 only if M is 0.
+
+#include <fcntl.h>
+#include <sys/wait.h>
+#include <unistd.h>
+
+#include <cstdint>
+#include <cstdio>
+#include <filesystem>
+#include <fstream>
+#include <string>
+#include <vector>
+
+#include "../second/programs.hpp"
+#include "checks.hpp"
+#include "files.hpp"
+#include "lent.hpp"
+#include "nordkelch.h"
+
+namespace {
+
+Random random_numbers(20240611);
+
+// How often each number came up, and in how many requests.
+unsigned long seen[6] = {0};
+unsigned long damaged_requests = 0;
+
+// ---------------------------------------------------------------------------
+// Requests as numbers
+// ---------------------------------------------------------------------------
+
+// An answer to "1 01 1 1" and a refutation of "1 01 0 1".
+const std::string good_answer = "s SATISFIABLE\nv 1 -2 -3 -4 -5 6 7 -8 0\n";
+const std::string good_refutation = "7 0 5 6 1 2 4 0\n";
+
+// A text that is good for some request, one that is not, or none.
+std::string any_text(const std::string& good) {
+    const std::string texts[] = {good, "x\n", "", good + "0"};
+    return texts[random_numbers.below(4)];
+}
+
+// Long enough for a small request in some cases, too short in others.
+Slices slices_for_any() {
+    const std::size_t most = random_numbers.below(4) == 0 ? 200 : 12;
+    const auto length = [&] { return random_numbers.below(most); };
+    const Lengths lengths = {length(), length(), length(), length()};
+    return any_slices(random_numbers, lengths, 20);
+}
+
+std::string number_fault(const char* entry, std::uint32_t have, std::uint32_t want) {
+    if (have == want) return "";
+    return std::string(", ") + entry + " answers " + std::to_string(have) + ", not " +
+           std::to_string(want);
+}
+
+std::string size_fault(const Request& q, std::uint32_t want) {
+    const std::uint64_t before = random_numbers.next();
+    std::uint64_t size = before;
+    const std::uint32_t have = nk_file_size(std::uint8_t(q.n), std::uint16_t(q.table),
+                                            std::uint8_t(q.r), std::uint8_t(q.m), &size);
+    return number_fault("size", have, want) + (size == before ? "" : ", the size is written");
+}
+
+std::string write_fault(const Request& q, std::uint32_t want) {
+    const std::uint64_t before = random_numbers.next();
+    std::uint64_t length = before;
+    const std::vector<std::uint8_t> room =
+        any_content<std::uint8_t>(random_numbers, random_numbers.below(120), 10);
+    Lent<std::uint8_t> buffer(random_numbers, room);
+    const std::uint32_t have =
+        nk_write_file(std::uint8_t(q.n), std::uint16_t(q.table), std::uint8_t(q.r),
+                      std::uint8_t(q.m), buffer.data(), buffer.length(), &length);
+    std::string fault = number_fault("write", have, want);
+    if (length != before) fault += ", the length is written";
+    if (buffer.slice() != room || !buffer.edges_stand()) fault += ", the buffer is written";
+    return fault;
+}
+
+std::string answer_fault(const Request& q, std::uint32_t want) {
+    const std::string text = any_text(good_answer);
+    const std::uint32_t have =
+        nk_test_answer(std::uint8_t(q.n), std::uint16_t(q.table), std::uint8_t(q.r),
+                       std::uint8_t(q.m), bytes_of(text), text.size());
+    return number_fault("answer", have, want);
+}
+
+std::string check_fault(const Request& q, std::uint32_t want) {
+    const std::string text = any_text(good_refutation);
+    const Slices before = slices_for_any();
+    LentSlices lent(random_numbers, before);
+    std::uint32_t count = std::uint32_t(random_numbers.next() >> 32);
+    const std::uint32_t have = nk_check_refutation(
+        std::uint8_t(q.n), std::uint16_t(q.table), std::uint8_t(q.r), std::uint8_t(q.m),
+        bytes_of(text), text.size(), lent.literals.data(), lent.literals.length(),
+        lent.pairs.data(), lent.pairs.length(), lent.added.data(), lent.added.length(),
+        lent.values.data(), lent.values.length(), &count);
+    return number_fault("check", have, want) + (count == 0 ? "" : ", the count is not 0") +
+           differences(lent, before);
+}
+
+std::string settle_fault(const Request& q, std::uint32_t want) {
+    const std::string answer = any_text(good_answer), refutation = any_text(good_refutation);
+    const Slices before = slices_for_any();
+    LentSlices lent(random_numbers, before);
+    Lent<std::uint8_t> network(random_numbers, any_content<std::uint8_t>(random_numbers, 24, 16));
+    std::uint32_t number = std::uint32_t(random_numbers.next() >> 32);
+    const std::uint32_t verdict = nk_settle(
+        std::uint8_t(q.n), std::uint16_t(q.table), std::uint8_t(q.r), std::uint8_t(q.m),
+        bytes_of(answer), answer.size(), bytes_of(refutation), refutation.size(),
+        lent.literals.data(), lent.literals.length(), lent.pairs.data(), lent.pairs.length(),
+        lent.added.data(), lent.added.length(), lent.values.data(), lent.values.length(),
+        network.data(), &number);
+    std::string fault = number_fault("settle", verdict, 3) + number_fault("settle", number, want);
+    if (network.slice() != std::vector<std::uint8_t>(24, 0)) fault += ", the network is not 0";
+    if (!network.edges_stand()) fault += ", a byte outside the network is written";
+    return fault + differences(lent, before);
+}
+
+// All five entries refuse the request with the same number, the lowest that
+// applies, and leave what they are lent. A good request is passed over.
+void check_refused(Group& group, const Request& q) {
+    const int number = second::refusal(q);
+    if (number == 0) return;
+    const std::uint32_t want = std::uint32_t(number);
+    const std::string fault = size_fault(q, want) + write_fault(q, want) + answer_fault(q, want) +
+                              check_fault(q, want) + settle_fault(q, want);
+    group.check(fault.empty(), fault.empty() ? "" : numbers_of(q),
+                fault.empty() ? "" : fault.substr(2));
+    seen[number]++;
+    damaged_requests++;
+}
+
+// Every mixture of fields inside their ranges, at their ends and outside.
+void group_mixtures() {
+    Group group("damaged requests, mixtures");
+    const unsigned bounds[] = {0, 1, 6, 7, 8, 9, 16, 127, 128, 254, 255};
+    const unsigned tables[] = {0,      1,      3,      4,      8,      15,     16,     17,    255,
+                               256,    0x0101, 0x7FFF, 0x8000, 0x8001, 0xFF00, 0xFFF0, 0xFFFF};
+    for (unsigned n : {0u, 1u, 2u, 3u, 4u, 5u, 6u, 8u, 16u, 127u, 128u, 129u, 255u}) {
+        for (unsigned table : tables) {
+            for (unsigned r : bounds) {
+                for (unsigned m : bounds) check_refused(group, {n, table, r, m});
+            }
+        }
+    }
+    group.finish();
+}
+
+// Each table with a bit at or above 2^n.
+void group_tables() {
+    Group group("damaged requests, tables");
+    for (unsigned n = 1; n <= 3; n++) {
+        for (unsigned table = 1u << (1u << n); table <= 0xFFFF; table += n == 1 ? 3 : 2) {
+            const unsigned r = unsigned(random_numbers.below(10));
+            check_refused(group, {n, table, r, unsigned(random_numbers.below(10))});
+        }
+    }
+    group.finish();
+}
+
+// Good requests in which one to four fields get any value at all.
+void group_random() {
+    Group group("damaged requests, random");
+    for (unsigned round = 0; round < 100000; round++) {
+        const unsigned n = unsigned(1 + random_numbers.below(4));
+        Request q = {n, unsigned(random_numbers.below(std::size_t(1) << (1u << n))),
+                     unsigned(random_numbers.below(8)), unsigned(random_numbers.below(8))};
+        const std::size_t fields = 1 + random_numbers.below(15);
+        if (fields & 1) q.n = unsigned(random_numbers.below(256));
+        if (fields & 2) q.table = unsigned(random_numbers.below(65536));
+        if (fields & 4) q.r = unsigned(random_numbers.below(256));
+        if (fields & 8) q.m = unsigned(random_numbers.below(256));
+        check_refused(group, q);
+    }
+    group.finish();
+}
+
+void group_numbers_seen() {
+    Group group("number of damaged requests");
+    group.check(damaged_requests >= 100000, "damaged requests", "fewer than 100000");
+    std::printf("%lu damaged requests, each through the five entries:", damaged_requests);
+    for (int number = 2; number <= 5; number++) {
+        group.check(seen[number] >= 1000, "number " + std::to_string(number), "fewer than 1000");
+        std::printf(" %lu with %d%s", seen[number], number, number == 5 ? "\n" : ",");
+    }
+    group.finish();
+}
+
+// ---------------------------------------------------------------------------
+// Texts through the programs
+// ---------------------------------------------------------------------------
+
+void write_text(const std::string& name, const std::string& text) {
+    std::ofstream out(name, std::ios::binary);
+    out.write(text.data(), std::streamsize(text.size()));
+}
+
+// Runs a program in a folder, with the file `in` there as its standard input,
+// and gives what it prints.
+std::string output_of(const std::string& program, const std::string& folder) {
+    std::fflush(stdout);
+    const pid_t child = fork();
+    if (child == 0) {
+        if (chdir(folder.c_str()) != 0) _exit(100);
+        dup2(open("in", O_RDONLY), 0);
+        dup2(open("out", O_WRONLY | O_CREAT | O_TRUNC, 0666), 1);
+        execl(program.c_str(), program.c_str(), static_cast<char*>(nullptr));
+        _exit(101);
+    }
+    int status = 0;
+    if (child < 0 || waitpid(child, &status, 0) != child) return "the program does not run";
+    if (!WIFEXITED(status) || WEXITSTATUS(status) >= 100) return "the program does not end";
+    return text_of_file(folder + "/out");
+}
+
+char any_byte() {
+    static const std::string set = "0123456789  \n\n-+\tx\r";
+    return random_numbers.below(30) == 0 ? char(random_numbers.below(256))
+                                         : set[random_numbers.below(set.size())];
+}
+
+// One to three changes of a text.
+std::string damaged(std::string text) {
+    for (std::size_t changes = 1 + random_numbers.below(3); changes > 0; changes--) {
+        const std::size_t place = random_numbers.below(text.size() + 1);
+        switch (random_numbers.below(text.size() == place ? 2 : 6)) {
+            case 0: text.insert(place, 1, any_byte()); break;
+            case 1: text.insert(place, std::to_string(random_numbers.below(20))); break;
+            case 2: text.erase(place, 1); break;
+            case 3: text.resize(place); break;
+            default: text[place] = any_byte(); break;
+        }
+    }
+    return text;
+}
+
+// A request as its line, with digits outside their ranges in some cases. The
+// clause file of some is above 65,536 bytes.
+std::string any_line() {
+    const std::size_t n = 1 + random_numbers.below(4);
+    const auto digit = [](std::size_t most) { return std::to_string(random_numbers.below(most)); };
+    const bool bad_n = random_numbers.below(8) == 0, bad_table = random_numbers.below(8) == 0;
+    std::string line = (bad_n ? digit(10) : std::to_string(n)) + " ";
+    for (std::size_t row = 0; row < (std::size_t(1) << n); row++) line += digit(bad_table ? 3 : 2);
+    return line + " " + digit(9) + " " + digit(9) + "\n";
+}
+
+// What the programs have said, by the first word and, for refusals, the number.
+struct Said {
+    unsigned long written = 0, refused[24] = {0}, other = 0;
+
+    void note(const std::string& text) {
+        if (text.compare(0, 8, "refused ") == 0) {
+            refused[std::size_t(std::stoi(text.substr(8))) % 24]++;
+        } else if (text.compare(0, 5, "p cnf") == 0) {
+            written++;
+        } else {
+            other++;
+        }
+    }
+
+    unsigned long all_refused() const {
+        unsigned long sum = 0;
+        for (unsigned long count : refused) sum += count;
+        return sum;
+    }
+};
+
+void check_output(Group& group, const std::string& have, const std::string& want,
+                  const std::string& input) {
+    const bool same = have == want;
+    group.check(same, same ? "" : shown(input), same ? "" : shown(have) + ", not " + shown(want));
+}
+
+// The program `file` on requests, half of them damaged as texts.
+void group_file(const std::string& program, const std::string& folder) {
+    Group group("requests through the program file");
+    Said said;
+    const unsigned texts = 1000;
+    for (unsigned round = 0; round < texts; round++) {
+        const std::string input = round % 2 == 0 ? any_line() : damaged(any_line());
+        write_text(folder + "/in", input);
+        const std::string want = second::file_output(input);
+        check_output(group, output_of(program, folder), want, input);
+        said.note(want);
+    }
+    for (int number = 1; number <= 6; number++) {
+        group.check(said.refused[number] >= 20, "refused " + std::to_string(number), "too few");
+    }
+    std::printf("%u requests through the program file: %lu files, refused", texts, said.written);
+    for (int number = 1; number <= 6; number++) {
+        std::printf(" %lu with %d%s", said.refused[number], number, number == 6 ? "\n" : ",");
+    }
+    group.finish();
+}
+
+// The program `report` on cells that are given as words, and on damaged copies
+// of their files.
+void group_report(const std::string& program, const std::string& folder, int count, char** words) {
+    Group group("cells through the program report");
+    Said said;
+    const int rounds = 300;
+    for (int round = 0; round < rounds; round++) {
+        char** const cell = words + 6 * (round % (count / 6));
+        const std::string line = std::string(cell[2]) + " " + cell[3] + " " + cell[4] + " " + cell[5];
+        std::string files[] = {line + "\n", text_of_file(cell[0]), text_of_file(cell[1])};
+        std::string& file = files[random_numbers.below(3)];
+        if (round % 4 > 0) file = damaged(file);
+        const char* const names[] = {"/request.txt", "/answer.txt", "/refutation.txt"};
+        for (int k = 0; k < 3; k++) write_text(folder + names[k], files[k]);
+        const std::string want = second::report_output(files[0], files[1], files[2]);
+        check_output(group, output_of(program, folder), want, files[0] + files[1] + files[2]);
+        said.note(want);
+    }
+    std::printf("%d cells through the program report: %lu refused, %lu others\n", rounds,
+                said.all_refused(), said.other);
+    group.check(said.other >= 50 && said.all_refused() >= 50, "report", "too few of a kind");
+    group.finish();
+}
+
+void run_all() {
+    group_mixtures();
+    group_tables();
+    group_random();
+    group_numbers_seen();
+}
+
+}  // namespace
+
+int main(int count, char** words) {
+    if (count > 5 && count % 6 == 5 && std::string(words[1]) == "--programs") {
+        std::error_code ignored;
+        std::filesystem::create_directories(words[4], ignored);
+        group_file(std::filesystem::absolute(words[2]).string(), words[4]);
+        group_report(std::filesystem::absolute(words[3]).string(), words[4], count - 5, words + 5);
+    } else if (count == 1) {
+        run_all();
+    } else {
+        std::fprintf(stderr, "usage: request_test [--programs FILE REPORT FOLDER "
+                             "ANSWER REFUTATION n table k m ...]\n");
+        return 2;
+    }
+    return counts();
+}
