@@ -6,6 +6,7 @@ use lib.Dec.{T}
 use lib.IntN as Z
 use lib.IntN.{ℤ, negℤ}
 use Rattle.cnf.specs.declared.Literal.{Literal}
+pub mod Laws
 
 -- x and −x
 abbrev pub pos : ℕ → Literal

@@ -2,16 +2,17 @@
 -- of its literals, and it has the form. Assumes nothing.
 use mathlib.Core.Path.{_≡_, refl, sym, ap, _∙_, subst}
 use mathlib.Core.Bool.{Bool, true, false, cond}
-use mathlib.Core.List.{List, [], _∷_}
+use mathlib.Core.List.{List, []}
 use mathlib.Core.Logic.{_⊎_, inl, inr, ⊎-elim}
-use Prim.Native.Nat.{ℕ, zero, suc, _+_, _*_, _≤_, _<_}
+use Prim.Native.Nat.{ℕ, _+_, _*_, _≤_, _<_}
 use native.Mathlib.Omega.{arith}
 use lib.Dec.{T, eqb, eqb→eq}
 use lib.ListN.{length, getD, replicate}
 use borrow.Author.Tests.{eq-eqb, ne-eqb}
 use Rattle.prelude.specs.Tests.{T-of, eq?}
 use Rattle.prelude.specs.Lists.Laws.{all-out}
-use Rattle.cnf.specs.Cnf.{Assignment, Formula, Clause, clauseHolds, Sat}
+use Rattle.cnf.specs.Cnf.{Assignment, Clause, clauseHolds, Sat}
+use Rattle.cnf.specs.Cnf.Laws.{sat-all}
 use Rattle.request.specs.declared.Request.{Request}
 use Rattle.request.specs.Numbers.{refusalOf}
 use Rattle.request.specs.Numbers.Laws.{refusal-good}
@@ -73,18 +74,6 @@ pub record Describes (q : Request) (α : Assignment) (w : Network) : Type 0 wher
   pub literal-low : (s : ℕ) → s < q .r → literalOf q w s < 2 * q .n
   pub chosen-literal : (s v : ℕ) → s < q .r → v < 2 * q .n → α (L (q .n) (q .r) s v) ≡ true → literalOf q w s ≡ v
   pub literal-chosen : (s v : ℕ) → s < q .r → v < 2 * q .n → literalOf q w s ≡ v → α (L (q .n) (q .r) s v) ≡ true
-
--- ---- a formula by the numbers of its clauses
--- it holds where each clause does
-pub sat-all : (α : Assignment) (f : Formula) → ((k : ℕ) → k < length f → T (clauseHolds α (getD f k []))) → Sat α f
-sat-all α [] h = tt
-sat-all α (c ∷ f) h = (h 0 (omega arith), sat-all α f (λ k l. h (suc k) (omega arith)))
-
--- and each clause does where it holds
-pub sat-at : (α : Assignment) (f : Formula) → Sat α f → (k : ℕ) → k < length f → T (clauseHolds α (getD f k []))
-sat-at α [] h k l = absurd (omega arith)
-sat-at α (c ∷ f) h zero l = h .0
-sat-at α (c ∷ f) h (suc k) l = sat-at α f (h .1) k (omega arith)
 
 -- numbers of which the test of equality is true are equal
 test-eq : (x y : ℕ) → eqb x y ≡ true → x ≡ y

@@ -11,7 +11,8 @@ use lib.ListN.{length, getD, set, length-set}
 use lib.Seq.{getD-set-same, getD-set-other}
 use borrow.Author.Tests.{eq-eqb, ne-eqb, le-leb, lt-leb, lt-ltb}
 use Rattle.prelude.specs.Tests.{eq?, le?}
-use Rattle.cnf.specs.Cnf.{Assignment, Clause, Formula, clauseHolds, Sat, Satisfiable}
+use Rattle.cnf.specs.Cnf.{Assignment, Clause, Formula, clauseHolds, Satisfiable}
+use Rattle.cnf.specs.Cnf.Laws.{sat-at}
 use Rattle.lrat.specs.Rules.{unset, falsified, literalsGood}
 use Rattle.lrat.specs.Rules.Sound.{Models, hinted-sound, hinted-not-one}
 use Rattle.lrat.specs.Words.{literalsAt, idsAt, Line, noLine, addition, deletion, lineAt}
@@ -220,12 +221,6 @@ module _ (F : Formula) (t : List ℕ) (top : ℕ) (α : Assignment) where
           → cond b (onLeft (stepOf F t top a added (lineAt t p)) (λ b l q. linesFrom f F t top b l q)) (stop 23 a added) .code ≡ 1 → ⊥
       go true s rest x = on (stepOf F t top a added (lineAt t p)) s rest (eq? (stepOf F t top a added (lineAt t p) .code) 0) x
       go false s rest x = omega arith
-
--- a formula that an assignment satisfies, by the index of a clause
-sat-at : (α : Assignment) (F : Formula) → Sat α F → (k : ℕ) → k < length F → T (clauseHolds α (getD F k []))
-sat-at α [] s k h = absurd (omega arith)
-sat-at α (c ∷ F) s zero h = s .0
-sat-at α (c ∷ F) s (suc k) h = sat-at α F (s .1) k (omega arith)
 
 -- "none" means that the formula is unsatisfiable
 pub none-sound : (F : Formula) (t : List ℕ) (top : ℕ) (added : List ℕ) → linesOf F t top added .code ≡ 1 → Satisfiable F → ⊥

@@ -21,7 +21,7 @@ use Rattle.formula.specs.Number.Laws.{clause-good, in-nets, in-choices}
 use Rattle.answer.specs.Values.{kept}
 use Rattle.answer.specs.Decode.{lowest, literalFor, labelFor, decoded}
 use Rattle.answer.specs.Decode.Meaning.{Sat-split}
-use Rattle.answer.specs.Reading.Meaning.{sat-at}
+use Rattle.cnf.specs.Cnf.Laws.{sat-at}
 
 -- ---- lists made of functions that agree
 tab-same : {A : Type 0} (a n : ℕ) (f g : ℕ → A) → ((i : ℕ) → a ≤ i → i < a + n → f i ≡ g i) → tab a n f ≡ tab a n g
