@@ -294,28 +294,6 @@ unsigned any_table(unsigned n) {
     return unsigned(random_numbers.below(std::size_t(1) << (1u << n)));
 }
 
-// Requests of which at least one field is outside its bounds.
-void group_random_requests() {
-    Group group("refused requests, random");
-    unsigned long seen[6] = {0, 0, 0, 0, 0, 0};
-    for (unsigned round = 0; round < 20000; round++) {
-        Request q = {unsigned(1 + random_numbers.below(4)), 0, unsigned(random_numbers.below(8)),
-                     unsigned(random_numbers.below(8))};
-        q.table = any_table(q.n);
-        if (random_numbers.below(4) == 0) q.n = unsigned(random_numbers.below(256));
-        if (random_numbers.below(3) == 0) q.table = unsigned(random_numbers.below(65536));
-        if (random_numbers.below(2) == 0) q.r = unsigned(8 + random_numbers.below(248));
-        if (random_numbers.below(2) == 0) q.m = unsigned(8 + random_numbers.below(248));
-        if (second::refusal(q) == 0) continue;
-        const second::Reading reading = check_same(group, q, round % 2 == 0 ? good : "x\n");
-        if (reading.refusal >= 2 && reading.refusal <= 5) seen[reading.refusal]++;
-    }
-    for (int number = 2; number <= 5; number++) {
-        group.check(seen[number] >= 100, "refusal " + std::to_string(number), "fewer than 100");
-    }
-    group.finish();
-}
-
 // ---------------------------------------------------------------------------
 // Answers made from networks
 // ---------------------------------------------------------------------------
@@ -614,7 +592,6 @@ void run_all() {
     group_missing();
     group_no_network();
     group_refused_requests();
-    group_random_requests();
     groups_of_networks();
     group_damaged();
     group_long();

@@ -746,25 +746,6 @@ void group_refused_requests() {
     group.finish();
 }
 
-// Requests of which at least one field is outside its bounds.
-void group_random_requests() {
-    Group group("refused requests, random");
-    for (unsigned round = 0; round < 20000; round++) {
-        Request q = {unsigned(1 + random_numbers.below(4)), 0, unsigned(random_numbers.below(8)),
-                     unsigned(random_numbers.below(8))};
-        q.table = any_table(q.n);
-        if (random_numbers.below(4) == 0) q.n = unsigned(random_numbers.below(256));
-        if (random_numbers.below(3) == 0) q.table = unsigned(random_numbers.below(65536));
-        if (random_numbers.below(2) == 0) q.r = unsigned(8 + random_numbers.below(248));
-        if (random_numbers.below(2) == 0) q.m = unsigned(8 + random_numbers.below(248));
-        if (second::refusal(q) == 0) continue;
-        const Lengths lengths = {random_numbers.below(40), random_numbers.below(40),
-                                 random_numbers.below(10), random_numbers.below(20)};
-        check_same(group, q, round % 2 == 0 ? good : "x\n", lengths);
-    }
-    group.finish();
-}
-
 // ---------------------------------------------------------------------------
 // The part of an added clause
 // ---------------------------------------------------------------------------
@@ -1011,12 +992,14 @@ void groups_of_damaged() {
     std::printf("%lu damaged refutations\n", damaged_in_all);
 }
 
-// Each number must come up often enough.
+// Each number must come up often enough; 2 to 5 come by the thousand in
+// request_test.
 void group_numbers_seen() {
     Group group("numbers seen");
     std::printf("numbers seen:");
     for (int number : {0, 2, 3, 4, 5, 7, 8, 14, 15, 16, 17, 18, 19, 20, 21, 22, 23}) {
-        const unsigned long least = number == 15 ? 2 : 50;
+        const bool request = number >= 2 && number <= 5;
+        const unsigned long least = number == 15 ? 2 : request ? 10 : 50;
         group.check(seen[number] >= least, "number " + std::to_string(number),
                     "fewer than " + std::to_string(least));
         std::printf(" %d: %lu%s", number, seen[number], number == 23 ? "\n" : ",");
@@ -1135,7 +1118,6 @@ void run_all() {
     group_short_slices();
     group_long_texts();
     group_refused_requests();
-    group_random_requests();
     group_parts_by_hand();
     groups_of_damaged();
     group_numbers_seen();
