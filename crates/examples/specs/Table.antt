@@ -10,7 +10,7 @@ use Rattle.prelude.specs.Lists.{firstOf, equalLists}
 use Rattle.request.specs.declared.Request.{Request}
 use Rattle.request.specs.Numbers.{refusalOf}
 use Rattle.rows.specs.Rows.{onBelow, rowsOf, literalOn}
-use Rattle.request.specs.Line.{numberOf, requestOf, lineForm, numbersOf, runEnd, digits, endedBy, single, isTable, tableAt}
+use Rattle.request.specs.Line.{numberOf, valuesOf as readingValues, requestOf, requestNumber, lineForm, numbersRefusal, runEnd, digits, endedBy, single, isTable, tableAt}
 use Rattle.network.specs.declared.Network.{Network}
 use Rattle.network.specs.Check.{numberOf as checkNumber, valuesOf, checkedOf, rowsAnswer, firstWrong, fitting, literalsLow, labelsLowest, listed, near, nearer, touching, atSink, apart, part}
 use Rattle.formula.specs.Formula.{pairNumber, X, P, L, W, S, transitivity, choice, choices, someStep, closedStep, firstStep, linkStep, lastStep, onRow, netSides, switchSides, offRow, rowVariables, rowClauses, rowsFrom, formula, formulaOf}
@@ -48,9 +48,9 @@ network r literals labels = record { r = r; literals = literals; labels = labels
 checked : Request → Network → List ℕ
 checked q w = checkNumber (checkedOf q w) ∷ valuesOf (checkedOf q w)
 
--- the refusal of a request read from text, 0 where it is taken
+-- the refusal of a request read from text, 0 where it is taken, then its n, table, r and M
 reading : List ℕ → List ℕ
-reading s = numberOf (requestOf s) ∷ []
+reading s = numberOf (requestOf s) ∷ readingValues (requestOf s)
 
 -- table 0110, r = 4, with the series bound m
 exclusive : ℕ → List ℕ
@@ -138,7 +138,7 @@ rows =
     record { computed = fileText firstRequest; stated = firstFile }
     -- P2: "1 01 1 1": V 15, C 38
     ∷ record { computed = variablesAndClauses oneSwitch; stated = 15 ∷ 38 ∷ [] }
-    -- P3: V 1,856 and C 27,547; its T beside them
+    -- P3: document 01 states V 1,856 and C 27,547; T, 77,088, before them, is not stated there but worked out by us
     ∷ record { computed = length (flatten (formulaOf largest)) ∷ variablesAndClauses largest; stated = 77088 ∷ 1856 ∷ 27547 ∷ [] }
     -- P4: "7 0 5 6 1 2 4 0": none
     ∷ record { computed = refuted noRefutation; stated = 0 ∷ 0 ∷ [] }
@@ -163,6 +163,8 @@ rows =
     ∷ record { computed = exclusive 1; stated = 0 ∷ 1 ∷ [] }
     -- P11: "1 11 0 0", labels 0 0: does
     ∷ record { computed = checked (record { n = 1; table = 3; r = 0; m = 0 }) (network 0 (replicate 7 0) (replicate 16 0)); stated = 0 ∷ [] }
+    -- P4's request "1 01 0 1", where r and M differ: taken, with n 1, table 2, r 0, M 1
+    ∷ record { computed = reading (49 ∷ 32 ∷ 48 ∷ 49 ∷ 32 ∷ 48 ∷ 32 ∷ 49 ∷ 10 ∷ []); stated = 0 ∷ 1 ∷ 2 ∷ 0 ∷ 1 ∷ [] }
     -- refused: empty 1
     ∷ record { computed = reading []; stated = 1 ∷ [] }
     -- "5 01 1 1": n = 5 is 2
@@ -182,7 +184,7 @@ unfolding rows noSwitch slices refuted noRefutation oneReport verdictBelow settl
     concluded addStep deleteStep stepOf checkStep checkFrom linesOf storeRefusal refusalBefore outcomeOf linesFor checkAnswer clauseCount literalCount clausesBefore literalsBefore
     onRowCount onRowLiterals pairsBefore triplesBefore
     equalLists oneSwitch oneAnswer answered digitsAt numberAt wordAt lineEnd standsAt formFrom formAt refusedBy keptBy namedOne namedFrom complete assigned holding
-    lowest literalFor labelFor decoded passed valued lineStep linesFrom ended readingOf clauseOf exclusive checked reading network requestOf lineForm numbersOf runEnd digits endedBy single isTable tableAt
+    lowest literalFor labelFor decoded passed valued lineStep linesFrom ended readingOf clauseOf exclusive checked reading network requestOf requestNumber lineForm numbersRefusal runEnd digits endedBy single isTable tableAt
     firstRequest firstFile variablesAndClauses largest each flatten pairNumber X P L W S transitivity choice choices someStep closedStep firstStep
     linkStep lastStep onRow netSides switchSides offRow rowVariables rowClauses rowsFrom formula formulaOf split onBelow variablesBefore variableCount
     numeral decimal literalText literalsText lineText headText bodyText fileText refusalOf rowsOf literalOn checkedOf rowsAnswer firstWrong fitting literalsLow labelsLowest listed firstOf near nearer touching atSink apart part

@@ -1,5 +1,5 @@
 -- A request as a line of text: "n, the table, r, M, single spaces between, newline (byte 10) last". Assumes nothing.
-use mathlib.Core.Bool.{Bool, true, false, not, _&&_, _||_, cond}
+use mathlib.Core.Bool.{Bool, true, not, _&&_, _||_, cond}
 use mathlib.Core.List.{List, [], _∷_}
 use mathlib.Core.Path.{_≡_}
 use Prim.Native.Nat.{ℕ, zero, suc, _+_, _-_, _*_, _^_, _≤_, _<_}
@@ -11,10 +11,15 @@ use Rattle.request.specs.declared.Reading.{Reading}
 use Rattle.request.specs.declared.Reading.the-variants.{Taken, Refused}
 pub mod Laws
 
--- document 01's number of an answer: 0 for a request that is taken
+-- document 01's number of an answer, 0 for a request that is taken
 abbrev pub numberOf : Reading → ℕ
 numberOf (Taken q) = 0
 numberOf (Refused k) = k
+
+-- and its values, "n, the table, r, M" of a request that is taken
+abbrev pub valuesOf : Reading → List ℕ
+valuesOf (Taken q) = q .n ∷ q .table ∷ q .r ∷ q .m ∷ []
+valuesOf (Refused k) = []
 
 -- a byte that is a digit, 0 to 9
 abbrev pub digit : ℕ → Bool
@@ -46,14 +51,18 @@ unfoldable pub tableAt : List ℕ → ℕ → ℕ → ℕ
 tableAt s from zero = 0
 tableAt s from (suc k) = getD s from 0 - 48 + 2 * tableAt s (suc from) k
 
--- "2 bad n; 3 bad table; 4 bad r; 5 bad M", for runs that end at a, b, c and d
-unfoldable pub numbersOf : List ℕ → ℕ → ℕ → ℕ → ℕ → Reading
-numbersOf s a b c d =
-    cond (not (leb 1 (single s 0 a) && leb (single s 0 a) 4)) (Refused 2)
-    (cond (not (isTable s (a + 1) b (single s 0 a))) (Refused 3)
-    (cond (ltb 7 (single s (b + 1) c)) (Refused 4)
-    (cond (ltb 7 (single s (c + 1) d)) (Refused 5)
-    (Taken (record { n = single s 0 a; table = tableAt s (a + 1) (b - (a + 1)); r = single s (b + 1) c; m = single s (c + 1) d })))))
+-- "2 bad n; 3 bad table; 4 bad r; 5 bad M", for runs that end at a, b, c and d: the first that applies, or 0
+unfoldable pub numbersRefusal : List ℕ → ℕ → ℕ → ℕ → ℕ → ℕ
+numbersRefusal s a b c d =
+    cond (not (leb 1 (single s 0 a) && leb (single s 0 a) 4)) 2
+    (cond (not (isTable s (a + 1) b (single s 0 a))) 3
+    (cond (ltb 7 (single s (b + 1) c)) 4
+    (cond (ltb 7 (single s (c + 1) d)) 5 0)))
+
+-- "A request is one line: n, the table, r, M": the request of these runs
+abbrev pub requestAt : List ℕ → ℕ → ℕ → ℕ → ℕ → Request
+requestAt s a b c d =
+    record { n = single s 0 a; table = tableAt s (a + 1) (b - (a + 1)); r = single s (b + 1) c; m = single s (c + 1) d }
 
 -- the ends of the four runs
 abbrev pub end1 : List ℕ → ℕ
@@ -74,9 +83,29 @@ lineForm s =
     endedBy s 0 (end1 s) 32 && (endedBy s (end1 s + 1) (end2 s) 32 && (endedBy s (end2 s + 1) (end3 s) 32
     && (endedBy s (end3 s + 1) (end4 s) 10 && eqb (end4 s + 1) (length s))))
 
--- reading a request: 1 if the line has not the form, else by its numbers
+-- "Reading a request: 1 if not four non-empty runs of digits in the line form", else by its numbers; 0 where it is taken
+unfoldable pub requestNumber : List ℕ → ℕ
+requestNumber s = cond (lineForm s) (numbersRefusal s (end1 s) (end2 s) (end3 s) (end4 s)) 1
+
+-- the request of the line's own runs
+abbrev pub requestIn : List ℕ → Request
+requestIn s = requestAt s (end1 s) (end2 s) (end3 s) (end4 s)
+
+-- "n, the table, r, M", in this order, of a line that is taken
+unfoldable pub requestValues : List ℕ → List ℕ
+requestValues s = cond (eqb (requestNumber s) 0) (requestIn s .n ∷ requestIn s .table ∷ requestIn s .r ∷ requestIn s .m ∷ []) []
+
+-- an answer by its number
+abbrev pub readingBy : ℕ → Request → Reading
+readingBy k q = cond (eqb k 0) (Taken q) (Refused k)
+
+-- the answer of reading a request
 unfoldable pub requestOf : List ℕ → Reading
-requestOf s = cond (lineForm s) (numbersOf s (end1 s) (end2 s) (end3 s) (end4 s)) (Refused 1)
+requestOf s = readingBy (requestNumber s) (requestIn s)
+
+-- the answer of a line that has the form, for runs that end at a, b, c and d
+unfoldable pub numbersOf : List ℕ → ℕ → ℕ → ℕ → ℕ → Reading
+numbersOf s a b c d = readingBy (numbersRefusal s a b c d) (requestAt s a b c d)
 
 -- the run of digits from one place to another, not empty, with the byte b after it
 pub record Run (s : List ℕ) (from end b : ℕ) : Type 0 where

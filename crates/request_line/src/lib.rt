@@ -5,7 +5,7 @@ use request::Request;
 ghost use mathlib.Core.Path.{_≡_};
 ghost use Prim.Native.Nat.{_-_, _≤_, _<_};
 ghost use lib.ListN.{length};
-ghost use Rattle.request.specs.Line.{runEnd, endedBy, single, isTable, tableAt, numbersOf, requestOf, Digits, Bits, Ends};
+ghost use Rattle.request.specs.Line.{numberOf, valuesOf, runEnd, endedBy, single, isTable, tableAt, requestNumber, requestValues, requestOf, numbersOf, Digits, Bits, Ends};
 
 // The end of the run of digits that starts at from.
 fn run_end(text: &[u8], from: usize) -> usize
@@ -112,7 +112,9 @@ fn numbers_at(text: &[u8], a: usize, b: usize, c: usize, d: usize) -> Reading
 }
 
 pub fn read_request(text: &[u8]) -> Reading
-    ensures { λ x. ⌜ x ≡ requestOf (now (text .entry)) ⌝ }
+    ensures answer { λ x. ⌜ x ≡ requestOf (now (text .entry)) ⌝ }
+    ensures number { λ x. ⌜ numberOf x ≡ requestNumber (now (text .entry)) ⌝ }
+    ensures values { λ x. ⌜ valuesOf x ≡ requestValues (now (text .entry)) ⌝ }
 {
     let a = run_end(text, 0);
     if !ended_by(text, 0, a, b' ') {

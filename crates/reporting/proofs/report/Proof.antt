@@ -46,7 +46,7 @@ refused-text-requires-2 c κs = search needs
 
 returns : tie.Need-returns
 returns c = let k = c .before .before in
-    let e = sym (k .number .given .1) ∙ k .before .before .read-request .ensures in
+    let e = sym (k .number .given .1) ∙ k .before .before .read-request .ensures .0 in
     (c .refused-text .ensures .0 ∙ report-refused _ _ _ _ _ e, leaves-refused _ _ _ _ _ e)
 
 -- settling, and the request that it had
@@ -67,7 +67,7 @@ same-length-4 c = search needs
 
 returns-2 : tie.Need-returns-2
 returns-2 c = let t = c .before in let k = t .before .before .before .before .before .before .before .before .before in
-    let e = sym (asked k .q .given .1) ∙ asked k .before .before .read-request .ensures in
+    let e = sym (asked k .q .given .1) ∙ asked k .before .before .read-request .ensures .0 in
     (c .least-text .ensures .0 ∙ report-settled _ _ _ _ _ e _ (k .settle .ensures .0) _ (t .enum-told .given .1), leaves-settled _ _ _ _ _ e _ (k .settle .ensures .1 .0))
 
 same-length-5 : tie.Need-same-length-5
@@ -84,7 +84,7 @@ same-length-8 c = search needs
 
 returns-3 : tie.Need-returns-3
 returns-3 c = let t = c .before .before in let k = t .before .before .before .before .before .before .before .before .before in
-    let e = sym (asked k .q .given .1) ∙ asked k .before .before .read-request .ensures in
+    let e = sym (asked k .q .given .1) ∙ asked k .before .before .read-request .ensures .0 in
     (c .works-text .ensures .0 ∙ report-settled _ _ _ _ _ e _ (k .settle .ensures .0) _ (t .verdict .given .1), leaves-settled _ _ _ _ _ e _ (k .settle .ensures .1 .0))
 
 same-length-9 : tie.Need-same-length-9
@@ -101,7 +101,7 @@ same-length-12 c = search needs
 
 returns-4 : tie.Need-returns-4
 returns-4 c = let t = c .before .before in let k = t .before .before .before .before .before .before .before .before .before in
-    let e = sym (asked k .q .given .1) ∙ asked k .before .before .read-request .ensures in
+    let e = sym (asked k .q .given .1) ∙ asked k .before .before .read-request .ensures .0 in
     (c .fails-text .ensures .0 ∙ report-settled _ _ _ _ _ e _ (k .settle .ensures .0) _ (t .verdict2 .given .1), leaves-settled _ _ _ _ _ e _ (k .settle .ensures .1 .0))
 
 same-length-13 : tie.Need-same-length-13
@@ -118,7 +118,7 @@ same-length-16 c = search needs
 
 returns-5 : tie.Need-returns-5
 returns-5 c = let t = c .before .before in let k = t .before .before .before .before .before .before .before .before .before in
-    let e = sym (asked k .q .given .1) ∙ asked k .before .before .read-request .ensures in
+    let e = sym (asked k .q .given .1) ∙ asked k .before .before .read-request .ensures .0 in
     (c .refused-text2 .ensures .0 ∙ report-settled _ _ _ _ _ e _ (k .settle .ensures .0) _ (t .verdict3 .given .1), leaves-settled _ _ _ _ _ e _ (k .settle .ensures .1 .0))
 
 pub report-spec : {M : Type 1} → statement M

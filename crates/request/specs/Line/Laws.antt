@@ -12,13 +12,13 @@ use lib.ListN.{length, getD, drop, drop-of-length-le}
 use lib.Pow.{pow-pos, pow-mono, shr-shr}
 use lib.Seq.{drop-cons, getD-drop}
 use borrow.Author.Tests.{lt-ltb, le-ltb, le-leb, lt-leb, eq-eqb, ne-eqb, not-true, not-false}
-use Rattle.prelude.specs.Tests.{T-eq, T-of, not-true-false, and-in, and-l, and-r, or-l, or-r, or-cases, eq→eqb, le?}
+use Rattle.prelude.specs.Tests.{T-eq, T-of, not-true-false, and-in, and-l, and-r, or-l, or-r, or-cases, eq→eqb, eq?, le?}
 use Rattle.prelude.specs.Lists.{allFrom}
 use Rattle.prelude.specs.Lists.Laws.{all-in, all-out}
 use Rattle.request.specs.declared.Request.{Request}
 use Rattle.request.specs.declared.Reading.{Reading}
 use Rattle.request.specs.declared.Reading.the-variants.{Taken, Refused}
-use Rattle.request.specs.Line.{digit, digits, runEnd, endedBy, single, isTable, tableAt, numbersOf, end1, end2, end3, end4, lineForm, requestOf, Run, Digits, Bits, Ends}
+use Rattle.request.specs.Line.{numberOf, valuesOf, digit, digits, runEnd, endedBy, single, isTable, tableAt, numbersRefusal, requestAt, end1, end2, end3, end4, lineForm, requestNumber, requestIn, requestValues, requestOf, numbersOf, Run, Digits, Bits, Ends}
 use Rattle.request.specs.Numbers.{Good}
 
 -- a byte of a digit's numbers is a digit
@@ -250,29 +250,29 @@ table-row s from (suc k) (suc j) b h =
 module _ (s : List ℕ) (a b c d n : ℕ) (is-n : n ≡ single s 0 a) where
   -- n below 1
   pub numbers-low : n < 1 → numbersOf s a b c d ≡ Refused 2
-  unfolding numbersOf
+  unfolding numbersOf numbersRefusal
   numbers-low h = rw (← is-n, lt-leb 1 n h)
 
   -- n above 4
   pub numbers-high : 4 < n → numbersOf s a b c d ≡ Refused 2
-  unfolding numbersOf
+  unfolding numbersOf numbersRefusal
   numbers-high h = let l : 1 ≤ n = omega arith in rw (← is-n, le-leb 1 n l, lt-leb n 4 h)
 
   -- no table of 2^n characters
   pub numbers-table : 1 ≤ n → n ≤ 4 → isTable s (a + 1) b n ≡ false → numbersOf s a b c d ≡ Refused 3
-  unfolding numbersOf
+  unfolding numbersOf numbersRefusal
   numbers-table l h t = rw (← is-n, le-leb 1 n l, le-leb n 4 h, t)
 
   -- r above 7
   pub numbers-r : 1 ≤ n → n ≤ 4 → isTable s (a + 1) b n ≡ true → (r : ℕ) → r ≡ single s (b + 1) c → 7 < r
       → numbersOf s a b c d ≡ Refused 4
-  unfolding numbersOf
+  unfolding numbersOf numbersRefusal
   numbers-r l h t r is-r x = rw (← is-n, le-leb 1 n l, le-leb n 4 h, t, ← is-r, lt-ltb 7 r x)
 
   -- M above 7
   pub numbers-m : 1 ≤ n → n ≤ 4 → isTable s (a + 1) b n ≡ true → (r : ℕ) → r ≡ single s (b + 1) c → r ≤ 7
       → (m : ℕ) → m ≡ single s (c + 1) d → 7 < m → numbersOf s a b c d ≡ Refused 5
-  unfolding numbersOf
+  unfolding numbersOf numbersRefusal
   numbers-m l h t r is-r x m is-m y =
       rw (← is-n, le-leb 1 n l, le-leb n 4 h, t, ← is-r, le-ltb 7 r x, ← is-m, lt-ltb 7 m y)
 
@@ -280,19 +280,9 @@ module _ (s : List ℕ) (a b c d n : ℕ) (is-n : n ≡ single s 0 a) where
   pub numbers-good : 1 ≤ n → n ≤ 4 → isTable s (a + 1) b n ≡ true → (r : ℕ) → r ≡ single s (b + 1) c → r ≤ 7
       → (m : ℕ) → m ≡ single s (c + 1) d → m ≤ 7 → (table : ℕ) → table ≡ tableAt s (a + 1) (b - (a + 1))
       → numbersOf s a b c d ≡ Taken (record { n = n; table = table; r = r; m = m })
-  unfolding numbersOf
+  unfolding numbersOf numbersRefusal
   numbers-good l h t r is-r x m is-m y table is-table =
       rw (← is-n, le-leb 1 n l, le-leb n 4 h, t, ← is-r, le-ltb 7 r x, ← is-m, le-ltb 7 m y, ← is-table)
-
--- a request that is taken past a refusal: its test failed
-past-refusal : (t : Bool) (k : ℕ) (x : Reading) (q : Request) → cond t (Refused k) x ≡ Taken q → T (not t) × (x ≡ Taken q)
-past-refusal true k x q e = absurd (let z : _≡_ {A = ℕ} 0 1 = cc in omega arith)
-past-refusal false k x q e = (tt, e)
-
--- or before one
-before-refusal : (t : Bool) (k : ℕ) (x : Reading) (q : Request) → cond t x (Refused k) ≡ Taken q → x ≡ Taken q
-before-refusal true k x q e = e
-before-refusal false k x q e = absurd (let z : _≡_ {A = ℕ} 0 1 = cc in omega arith)
 
 module _ (s : List ℕ) (from end b : ℕ) (x : Bool) (is-end : end ≡ runEnd s from) (is-x : x ≡ endedBy s from end b) where
   -- a run that passes the test of its end
@@ -305,32 +295,32 @@ module _ (s : List ℕ) (from end b : ℕ) (x : Bool) (is-end : end ≡ runEnd s
 
 -- no first run
 pub form-first : (s : List ℕ) → endedBy s 0 (runEnd s 0) 32 ≡ false → requestOf s ≡ Refused 1
-unfolding requestOf lineForm
+unfolding requestOf requestNumber lineForm
 form-first s e = rw e
 
 module _ {s : List ℕ} {a : ℕ} (first : Run s 0 a 32) where
   -- no second
   pub form-second : endedBy s (a + 1) (runEnd s (a + 1)) 32 ≡ false → requestOf s ≡ Refused 1
-  unfolding requestOf lineForm
+  unfolding requestOf requestNumber lineForm
   form-second e = rw (← first .is-end, first .ended, e)
 
   module _ {b : ℕ} (second : Run s (a + 1) b 32) where
     -- no third
     pub form-third : endedBy s (b + 1) (runEnd s (b + 1)) 32 ≡ false → requestOf s ≡ Refused 1
-    unfolding requestOf lineForm
+    unfolding requestOf requestNumber lineForm
     form-third e = rw (← first .is-end, first .ended, ← second .is-end, second .ended, e)
 
     module _ {c : ℕ} (third : Run s (b + 1) c 32) where
       -- no fourth
       pub form-fourth : endedBy s (c + 1) (runEnd s (c + 1)) 10 ≡ false → requestOf s ≡ Refused 1
-      unfolding requestOf lineForm
+      unfolding requestOf requestNumber lineForm
       form-fourth e =
           rw (← first .is-end, first .ended, ← second .is-end, second .ended, ← third .is-end, third .ended, e)
 
       module _ {d : ℕ} (fourth : Run s (c + 1) d 10) where
         -- bytes after the newline
         pub form-longer : (d + 1 ≡ length s → ⊥) → requestOf s ≡ Refused 1
-        unfolding requestOf lineForm
+        unfolding requestOf requestNumber lineForm
         form-longer h =
             rw (
               ← first .is-end,
@@ -346,7 +336,7 @@ module _ {s : List ℕ} {a : ℕ} (first : Run s 0 a 32) where
 
         -- the line's form: what its numbers give
         pub form-line : d + 1 ≡ length s → (x : Reading) → x ≡ numbersOf s a b c d → requestOf s ≡ x
-        unfolding requestOf lineForm
+        unfolding requestOf requestNumber lineForm numbersOf
         form-line h x e =
             rw (
               e,
@@ -384,28 +374,58 @@ table-fits s from end n e =
     subst (λ (k : ℕ). tableAt s from (end - from) < 2 ^ k) l
     (table-below s from (end - from) (record { each = λ i x y. b .each i x (omega (arith, pow-pos n)) }))
 
--- four numbers that are taken are good
-numbers-taken : (s : List ℕ) (a b c d : ℕ) (q : Request) → numbersOf s a b c d ≡ Taken q → Good q
-unfolding numbersOf
-numbers-taken s a b c d q e =
+-- the number of a reading is the rule's
+pub number-is : (s : List ℕ) → numberOf (requestOf s) ≡ requestNumber s
+unfolding requestOf
+number-is s =
+    ⊎-elim (λ (z : requestNumber s ≡ 0). rw z) (λ (d : requestNumber s ≡ 0 → ⊥). rw (ne-eqb (requestNumber s) 0 d))
+    (eq? (requestNumber s) 0)
+
+-- so are its values
+pub values-is : (s : List ℕ) → valuesOf (requestOf s) ≡ requestValues s
+unfolding requestOf requestValues
+values-is s =
+    ⊎-elim (λ (z : requestNumber s ≡ 0). rw z) (λ (d : requestNumber s ≡ 0 → ⊥). rw (ne-eqb (requestNumber s) 0 d))
+    (eq? (requestNumber s) 0)
+
+-- no two answers have the same number and values
+pub readings-differ : (x y : Reading) → numberOf x ≡ numberOf y → valuesOf x ≡ valuesOf y → x ≡ y
+readings-differ (Taken p) (Taken q) e f =
+    let z : _≡_ {A = Request} (record { n = p .n; table = p .table; r = p .r; m = p .m }) (record { n = q .n; table = q .table; r = q .r; m = q .m }) = cc in
+    ap Taken z
+readings-differ (Taken p) (Refused k) e f = absurd (let z : _≡_ {A = ℕ} 0 1 = cc in omega arith)
+readings-differ (Refused k) (Taken q) e f = absurd (let z : _≡_ {A = ℕ} 0 1 = cc in omega arith)
+readings-differ (Refused j) (Refused k) e f = cc
+
+-- a number that is 0 past a refusal: its test failed
+past-refusal : (t : Bool) (k x : ℕ) → cond t (suc k) x ≡ 0 → T (not t) × (x ≡ 0)
+past-refusal true k x e = absurd (omega arith)
+past-refusal false k x e = (tt, e)
+
+-- or before one
+before-refusal : (t : Bool) (k x : ℕ) → cond t x (suc k) ≡ 0 → x ≡ 0
+before-refusal true k x e = e
+before-refusal false k x e = absurd (omega arith)
+
+-- four numbers that are not refused are good
+numbers-taken : (s : List ℕ) (a b c d : ℕ) → numbersRefusal s a b c d ≡ 0 → Good (requestAt s a b c d)
+unfolding numbersRefusal
+numbers-taken s a b c d e =
     let n = single s 0 a in
     let r = single s (b + 1) c in
     let m = single s (c + 1) d in
-    let table = tableAt s (a + 1) (b - (a + 1)) in
-    let e1 = past-refusal (not (leb 1 n && leb n 4)) 2 _ q e in
-    let e2 = past-refusal (not (isTable s (a + 1) b n)) 3 _ q (e1 .1) in
-    let e3 = past-refusal (ltb 7 r) 4 _ q (e2 .1) in
-    let e4 = past-refusal (ltb 7 m) 5 _ q (e3 .1) in
-    let is-q : record { n = n; table = table; r = r; m = m } ≡ q = cc in
+    let e1 = past-refusal (not (leb 1 n && leb n 4)) 1 _ e in
+    let e2 = past-refusal (not (isTable s (a + 1) b n)) 2 _ (e1 .1) in
+    let e3 = past-refusal (ltb 7 r) 3 _ (e2 .1) in
+    let e4 = past-refusal (ltb 7 m) 4 _ (e3 .1) in
     let nn : T (leb 1 n && leb n 4) = twice (leb 1 n && leb n 4) (e1 .0) in
-    subst Good is-q
-    (record {
+    record {
       n-low = leb→le 1 n (and-l (leb 1 n) (leb n 4) nn);
       n-high = leb→le n 4 (and-r (leb 1 n) (leb n 4) nn);
       table-low = table-fits s (a + 1) b n (T-eq (isTable s (a + 1) b n) (twice (isTable s (a + 1) b n) (e2 .0)));
       r-high = nltb→le 7 r (e3 .0);
       m-high = nltb→le 7 m (e4 .0);
-    })
+    }
   where
     twice : (t : Bool) → T (not (not t)) → T t
     twice true h = tt
@@ -413,7 +433,9 @@ numbers-taken s a b c d q e =
 
 -- a request that was read passes the test of numbers
 pub request-good : (s : List ℕ) (q : Request) → requestOf s ≡ Taken q → Good q
-unfolding requestOf
+unfolding requestOf requestNumber
 request-good s q e =
-    numbers-taken s (end1 s) (end2 s) (end3 s) (end4 s) q
-    (before-refusal (lineForm s) 1 (numbersOf s (end1 s) (end2 s) (end3 s) (end4 s)) q e)
+    let z : requestNumber s ≡ 0 = sym (number-is s) ∙ ap numberOf e in
+    let t : Taken (requestIn s) ≡ Taken q = rw z at e in
+    let is-q : requestIn s ≡ q = cc in
+    subst Good is-q (numbers-taken s (end1 s) (end2 s) (end3 s) (end4 s) (before-refusal (lineForm s) 0 _ z))
