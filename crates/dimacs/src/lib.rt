@@ -10,7 +10,7 @@ ghost use Rattle.prelude.specs.Written.{written};
 ghost use Rattle.request.specs.Numbers.{Good};
 ghost use Rattle.formula.specs.Formula.{formulaOf};
 ghost use Rattle.formula.specs.Count.{clauseCount};
-ghost use Rattle.size.specs.File.{headText, bodyText, writeAnswer, fileWritten};
+ghost use Rattle.size.specs.File.{numberOf, valuesOf, headText, bodyText, writeNumber, writeValues, writeAnswer, fileWritten};
 ghost use Rattle.dimacs.specs.Means.{Meaning};
 
 mod lines;
@@ -52,6 +52,8 @@ pub fn write_file(q: Request, buffer: &mut [u8]) -> Answer
     ensures answer { λ x. ⌜ x ≡ writeAnswer q (length (now (buffer .entry))) ⌝ }
     ensures bytes { λ _. ⌜ now (buffer .exit) ≡ fileWritten q (now (buffer .entry)) ⌝ }
     ensures meaning { λ x. ⌜ Meaning q x ⌝ }
+    ensures number { λ x. ⌜ numberOf x ≡ writeNumber q (length (now (buffer .entry))) ⌝ }
+    ensures values { λ x. ⌜ valuesOf x ≡ writeValues q (length (now (buffer .entry))) ⌝ }
 {
     match size::file_size(q) {
         Answer::Refused(x) => Answer::Refused(x),

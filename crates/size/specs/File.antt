@@ -16,11 +16,12 @@ use Rattle.size.specs.declared.Answer.{Answer}
 use Rattle.size.specs.declared.Answer.the-variants.{Bytes, Refused}
 pub mod Laws
 
--- document 01's number of an answer, 0 where it is a length, and the length
+-- document 01's number of an answer, 0 where it is a length
 abbrev pub numberOf : Answer → ℕ
 numberOf (Bytes k) = 0
 numberOf (Refused x) = x
 
+-- and its values, the length where it is one
 abbrev pub valuesOf : Answer → List ℕ
 valuesOf (Bytes k) = k ∷ []
 valuesOf (Refused x) = []
@@ -38,20 +39,35 @@ bodyText (c ∷ f) = lineText c ++ bodyText f
 unfoldable pub fileText : Request → List ℕ
 fileText q = headText (variableCount q) (length (formulaOf q)) ++ bodyText (formulaOf q)
 
--- "Size of file: only 2 to 5"; the result is the length
+-- an answer by its number and the length
+abbrev pub answerBy : ℕ → ℕ → Answer
+answerBy k size = cond (eqb k 0) (Bytes size) (Refused k)
+
+-- "Size of file: only 2 to 5", so its number is that of the test of numbers; the result is the length
+unfoldable pub sizeValues : Request → List ℕ
+sizeValues q = cond (eqb (refusalOf q) 0) (length (fileText q) ∷ []) []
+
+-- the answer of the size
 unfoldable pub sizeAnswer : Request → Answer
-sizeAnswer q = cond (eqb (refusalOf q) 0) (Bytes (length (fileText q))) (Refused (refusalOf q))
+sizeAnswer q = answerBy (refusalOf q) (length (fileText q))
 
 -- "The result is at least the length and at most 8·(T+C)+32"
 abbrev pub Bounded : Request → Answer → Type 0
 Bounded q (Bytes k) = (length (fileText q) ≤ k) × (k ≤ 8 * (literalCount q + clauseCount q) + 32)
 Bounded q (Refused x) = Unit {0}
 
--- "Writing the file: 6 if the buffer is shorter than the file. The result is the length"
+-- "Writing the file: 6 if the buffer is shorter than the file", after 2 to 5; 0 where it is written
+unfoldable pub writeNumber : Request → ℕ → ℕ
+writeNumber q room = cond (eqb (refusalOf q) 0) (cond (ltb room (length (fileText q))) 6 0) (refusalOf q)
+
+-- "The result is the length"
+unfoldable pub writeValues : Request → ℕ → List ℕ
+writeValues q room = cond (eqb (writeNumber q room) 0) (length (fileText q) ∷ []) []
+
+-- the answer of writing the file
 unfoldable pub writeAnswer : Request → ℕ → Answer
-writeAnswer q room =
-    cond (eqb (refusalOf q) 0) (cond (ltb room (length (fileText q))) (Refused 6) (Bytes (length (fileText q)))) (Refused (refusalOf q))
+writeAnswer q room = answerBy (writeNumber q room) (length (fileText q))
 
 -- "bytes past it stand", and a refusal writes nothing
 unfoldable pub fileWritten : Request → List ℕ → List ℕ
-fileWritten q old = cond (eqb (numberOf (writeAnswer q (length old))) 0) (written old 0 (fileText q)) old
+fileWritten q old = cond (eqb (writeNumber q (length old)) 0) (written old 0 (fileText q)) old

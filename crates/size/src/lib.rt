@@ -5,12 +5,12 @@ use request::Request;
 ghost use mathlib.Core.Path.{_≡_};
 ghost use Prim.Native.Nat.{ℕ, _+_, _*_, _≤_};
 ghost use lib.ListN.{length};
-ghost use Rattle.request.specs.Numbers.{Good};
+ghost use Rattle.request.specs.Numbers.{Good, refusalOf};
 ghost use Rattle.formula.specs.Clause.{run, literalsOf};
 ghost use Rattle.formula.specs.Formula.{formulaOf};
 ghost use Rattle.formula.specs.Count.{clauseCount};
 ghost use Rattle.text.specs.Text.{literalsText, lineText, Low};
-ghost use Rattle.size.specs.File.{headText, bodyText, sizeAnswer, Bounded};
+ghost use Rattle.size.specs.File.{numberOf, valuesOf, headText, bodyText, sizeValues, sizeAnswer, Bounded};
 
 // The length of the file in bytes, or the number of the refusal.
 pub enum Answer {
@@ -73,6 +73,8 @@ fn body_length(q: Request, count: u32) -> usize
 pub fn file_size(q: Request) -> Answer
     ensures answer { λ x. ⌜ x ≡ sizeAnswer q ⌝ }
     ensures bound { λ x. ⌜ Bounded q x ⌝ }
+    ensures number { λ x. ⌜ numberOf x ≡ refusalOf q ⌝ }
+    ensures values { λ x. ⌜ valuesOf x ≡ sizeValues q ⌝ }
 {
     let size = clauses::count::count(q);
     if size.refusal != 0 {

@@ -1,16 +1,24 @@
 -- `dimacs::write_file` meets its contract: the lines are written where the head ended, in a buffer that has room for both; another buffer
--- stays. Assumes nothing.
-use mathlib.Core.Path.{_≡_, refl, sym, _∙_}
+-- stays; with the answer come its meaning, its number and its values. Assumes nothing.
+use mathlib.Core.Path.{_≡_, refl, sym, ap, _∙_}
+use Prim.Native.Nat.{ℕ}
 use native.Mathlib.Omega.{arith}
 use lib.ListN.{length}
 use Rattle.request.specs.Numbers.{refusalOf}
+use Rattle.request.specs.declared.Request.{Request}
 use Rattle.formula.specs.Count.{sizesOf}
-use Rattle.size.specs.File.{fileText}
-use Rattle.size.specs.File.Laws.{Counted, counted-good, size-taken, size-refusal, file-length, write-refused, file-refused, write-short, file-short, write-long, file-wrote}
-use Rattle.dimacs.specs.Means.{answer-means}
+use Rattle.size.specs.declared.Answer.{Answer}
+use Rattle.size.specs.File.{numberOf, valuesOf, fileText, writeNumber, writeValues, writeAnswer}
+use Rattle.size.specs.File.Laws.{Counted, counted-good, size-taken, size-refusal, file-length, write-refused, file-refused, write-short, file-short, write-long, file-wrote, write-number, write-values}
+use Rattle.dimacs.specs.Means.{Meaning, answer-means}
 use borrow.Author.Needs.{needs}
 use Rattle.dimacs.proofs.write_file.Statement.{statement}
 use Rattle.dimacs.proofs.write_file.Tie as tie
+
+-- what the answer means, its number and its values
+answered : (q : Request) (room : ℕ) (x : Answer) → x ≡ writeAnswer q room
+    → Meaning q x × ((numberOf x ≡ writeNumber q room) × (valuesOf x ≡ writeValues q room))
+answered q room x e = (answer-means q room x e, (ap numberOf e ∙ write-number q room, ap valuesOf e ∙ write-values q room))
 
 file-size-requires : tie.Need-file-size-requires
 file-size-requires c κs = search needs
@@ -33,7 +41,7 @@ returns c =
     let t = taken n in
     let g = counted-good (a .q) {x = sizesOf (a .q)} refl (t .0) in
     let w = write-short (a .q) g {room = length (a .buffer .now)} (omega arith) in
-    (w, (file-short (a .q) g (a .buffer .now) (omega arith), answer-means (a .q) _ _ w))
+    (w, (file-short (a .q) g (a .buffer .now) (omega arith), answered (a .q) _ _ w))
 
 count-requires : tie.Need-count-requires
 count-requires c κs = search needs
@@ -69,7 +77,7 @@ returns-2 c =
     let a = n .before .before .before .before .args in
     let r = size-refusal (a .q) (sym (n .x .given .1) ∙ n .before .before .file-size .ensures .0) in
     let w = write-refused (a .q) (r .0) (r .1) (length (a .buffer .now)) in
-    (w, (file-refused (a .q) (r .0) (r .1) (a .buffer .now), answer-means (a .q) _ _ w))
+    (w, (file-refused (a .q) (r .0) (r .1) (a .buffer .now), answered (a .q) _ _ w))
 
 same-length : tie.Need-same-length
 same-length c = search needs
@@ -84,7 +92,7 @@ returns-3 c =
     let r = n .before .if1 .left in
     let x = write-long (a .q) (counted n) {room = length (a .buffer .now)} (omega arith) (t .1) in
     let b = file-wrote (a .q) (counted n) (a .buffer .now) (omega arith) (p .put-head .ensures) (w .put-body .ensures) in
-    (x, (b, answer-means (a .q) _ _ x))
+    (x, (b, answered (a .q) _ _ x))
 
 pub write-file-spec : {M : Type 1} → statement M
 write-file-spec =

@@ -1,6 +1,6 @@
 -- Laws of the file: the head and the lines as their parts one after the other, how long they are, and the answers. Assumes nothing.
 use mathlib.Core.Path.{_≡_, refl, sym, ap, ap₂, _∙_, subst}
-use mathlib.Core.Bool.{Bool, true, false}
+use mathlib.Core.Bool.{Bool, true, false, cond}
 use mathlib.Core.List.{List, [], _∷_, _++_, append-assoc, append-nil}
 use Prim.Native.Nat.{ℕ, _+_, _*_, _≤_, _<_}
 use native.Mathlib.Numerals.{add-one}
@@ -31,7 +31,7 @@ use Rattle.text.specs.Decimal.{decimal}
 use Rattle.text.specs.Decimal.Laws.{length-high}
 use Rattle.text.specs.Text.{literalText, literalsText, lineText, Low}
 use Rattle.text.specs.Text.Laws.{literals-none, literals-length, line-length, positive-length, negative-length}
-use Rattle.size.specs.File.{headText, bodyText, fileText, sizeAnswer, writeAnswer, fileWritten, Bounded, numberOf, valuesOf}
+use Rattle.size.specs.File.{numberOf, valuesOf, headText, bodyText, fileText, answerBy, sizeValues, sizeAnswer, Bounded, writeNumber, writeValues, writeAnswer, fileWritten}
 use Rattle.size.specs.declared.Answer.{Answer}
 use Rattle.size.specs.declared.Answer.the-variants.{Bytes, Refused}
 
@@ -192,24 +192,24 @@ module _ (q : Request) {x : Sizes} (counted : Counted q x) where
 
   -- the answer where the buffer is shorter than the file
   pub write-short : {room : ℕ} → room < length (fileText q) → Refused 6 ≡ writeAnswer q room
-  unfolding writeAnswer
+  unfolding writeAnswer writeNumber
   write-short {room} h = rw (good-refusal q (counted .good), lt-ltb room (length (fileText q)) h)
 
   -- such a buffer stays
   pub file-short : (l : List ℕ) → length l < length (fileText q) → l ≡ fileWritten q l
-  unfolding fileWritten writeAnswer
+  unfolding fileWritten writeNumber
   file-short l h = rw (good-refusal q (counted .good), lt-ltb (length l) (length (fileText q)) h)
 
   -- the answer where it has room
   pub write-long : {room k : ℕ} → length (fileText q) ≤ room → k ≡ length (fileText q) → Bytes k ≡ writeAnswer q room
-  unfolding writeAnswer
+  unfolding writeAnswer writeNumber
   write-long {room} h e = rw (good-refusal q (counted .good), le-ltb room (length (fileText q)) h) (ap Bytes e)
 
   -- then the head is written, and the lines after it
   pub file-wrote : (l : List ℕ) {m n : List ℕ} {k e : ℕ} → length (fileText q) ≤ length l
       → (k ≡ length (headText (x .variables) (x .clauses))) × (m ≡ written l 0 (headText (x .variables) (x .clauses)))
       → Wrote m k (bodyText (formulaOf q)) e n → n ≡ fileWritten q l
-  unfolding fileWritten writeAnswer
+  unfolding fileWritten writeNumber
   file-wrote l room (f, p) b =
       rw (good-refusal q (counted .good), le-ltb (length l) (length (fileText q)) room)
       (wrote-next (headText (x .variables) (x .clauses)) (bodyText (formulaOf q)) (fileText q) file-text 0 l (omega arith) (omega arith, p) b .1)
@@ -225,42 +225,68 @@ module _ (q : Request) {x : ℕ} (is : x ≡ refusalOf q) (not : x ≡ 0 → ⊥
 
   -- the writer's
   pub write-refused : (room : ℕ) → Refused x ≡ writeAnswer q room
-  unfolding writeAnswer
-  write-refused room = rw fails (ap Refused is)
+  unfolding writeAnswer writeNumber
+  write-refused room = rw (fails, fails) (ap Refused is)
 
   -- the buffer stays
   pub file-refused : (l : List ℕ) → l ≡ fileWritten q l
-  unfolding fileWritten writeAnswer
+  unfolding fileWritten writeNumber
   file-refused l = rw (fails, fails)
 
--- the size's answer, by the refusal
-size-zero : (q : Request) → refusalOf q ≡ 0 → sizeAnswer q ≡ Bytes (length (fileText q))
-unfolding sizeAnswer
-size-zero q e = rw e
+-- the number of an answer is the one that it is made by
+pub number-is : (k size : ℕ) → numberOf (answerBy k size) ≡ k
+number-is k size = ⊎-elim (λ (z : k ≡ 0). rw z) (λ (d : k ≡ 0 → ⊥). rw (ne-eqb k 0 d)) (eq? k 0)
 
-size-number : (q : Request) → (refusalOf q ≡ 0 → ⊥) → sizeAnswer q ≡ Refused (refusalOf q)
-unfolding sizeAnswer
-size-number q d = rw (ne-eqb (refusalOf q) 0 d)
+-- its values are the length, where that number is 0
+pub values-is : (k size : ℕ) → valuesOf (answerBy k size) ≡ cond (eqb k 0) (size ∷ []) []
+values-is k size = ⊎-elim (λ (z : k ≡ 0). rw z) (λ (d : k ≡ 0 → ⊥). rw (ne-eqb k 0 d)) (eq? k 0)
 
--- a size that is given is the length of a good request's file
-pub size-taken : (q : Request) {k : ℕ} → Bytes k ≡ sizeAnswer q → (refusalOf q ≡ 0) × (k ≡ length (fileText q))
-size-taken q {k} e = ⊎-elim there none (eq? (refusalOf q) 0)
-  where
-    there : refusalOf q ≡ 0 → (refusalOf q ≡ 0) × (k ≡ length (fileText q))
-    there z = (z, ap (λ (a : Answer). getD (valuesOf a) 0 0) (e ∙ size-zero q z))
+-- no two answers have the same number and values
+pub answers-differ : (x y : Answer) → numberOf x ≡ numberOf y → valuesOf x ≡ valuesOf y → x ≡ y
+answers-differ (Bytes j) (Bytes k) e f = cc
+answers-differ (Bytes j) (Refused k) e f = absurd (let z : _≡_ {A = ℕ} 0 1 = cc in omega arith)
+answers-differ (Refused j) (Bytes k) e f = absurd (let z : _≡_ {A = ℕ} 0 1 = cc in omega arith)
+answers-differ (Refused j) (Refused k) e f = cc
 
-    none : (refusalOf q ≡ 0 → ⊥) → (refusalOf q ≡ 0) × (k ≡ length (fileText q))
-    none d = let f : _≡_ {A = ℕ} 1 0 = ap (λ (a : Answer). length (valuesOf a)) (e ∙ size-number q d) in absurd (omega arith)
+module _ (q : Request) where
+  -- number and values of the size's answer
+  pub size-number : numberOf (sizeAnswer q) ≡ refusalOf q
+  unfolding sizeAnswer
+  size-number = number-is (refusalOf q) (length (fileText q))
 
--- a refusal is the request's
-pub size-refusal : (q : Request) {x : ℕ} → Refused x ≡ sizeAnswer q → (x ≡ refusalOf q) × (x ≡ 0 → ⊥)
-size-refusal q {x} e = ⊎-elim none there (eq? (refusalOf q) 0)
-  where
-    none : refusalOf q ≡ 0 → (x ≡ refusalOf q) × (x ≡ 0 → ⊥)
-    none z = let f : _≡_ {A = ℕ} 0 1 = ap (λ (a : Answer). length (valuesOf a)) (e ∙ size-zero q z) in absurd (omega arith)
+  pub size-values : valuesOf (sizeAnswer q) ≡ sizeValues q
+  unfolding sizeAnswer sizeValues
+  size-values = values-is (refusalOf q) (length (fileText q))
 
-    there : (refusalOf q ≡ 0 → ⊥) → (x ≡ refusalOf q) × (x ≡ 0 → ⊥)
-    there d = let f : x ≡ refusalOf q = ap numberOf (e ∙ size-number q d) in (f, λ z. d (sym f ∙ z))
+  -- and of the writer's
+  pub write-number : (room : ℕ) → numberOf (writeAnswer q room) ≡ writeNumber q room
+  unfolding writeAnswer
+  write-number room = number-is (writeNumber q room) (length (fileText q))
+
+  pub write-values : (room : ℕ) → valuesOf (writeAnswer q room) ≡ writeValues q room
+  unfolding writeAnswer writeValues
+  write-values room = values-is (writeNumber q room) (length (fileText q))
+
+  -- where the file is written the request is not refused
+  pub write-zero : (room : ℕ) → writeNumber q room ≡ 0 → refusalOf q ≡ 0
+  unfolding writeNumber
+  write-zero room e =
+      ⊎-elim (λ (z : refusalOf q ≡ 0). z) (λ (d : refusalOf q ≡ 0 → ⊥). absurd (d (rw (ne-eqb (refusalOf q) 0 d) at e))) (eq? (refusalOf q) 0)
+
+  -- the size of a request that is not refused
+  size-zero : refusalOf q ≡ 0 → sizeAnswer q ≡ Bytes (length (fileText q))
+  unfolding sizeAnswer
+  size-zero e = rw e
+
+  -- a size that is given is the length of a good request's file
+  pub size-taken : {k : ℕ} → Bytes k ≡ sizeAnswer q → (refusalOf q ≡ 0) × (k ≡ length (fileText q))
+  size-taken {k} e = let z : refusalOf q ≡ 0 = sym size-number ∙ sym (ap numberOf e) in (z, cc (size-zero z))
+
+  -- a refusal is the request's
+  pub size-refusal : {x : ℕ} → Refused x ≡ sizeAnswer q → (x ≡ refusalOf q) × (x ≡ 0 → ⊥)
+  size-refusal {x} e =
+      let f : x ≡ refusalOf q = ap numberOf e ∙ size-number in
+      (f, λ z. let w : _≡_ {A = ℕ} 0 1 = cc (size-zero (sym f ∙ z)) in omega arith)
 
 -- V and C of a good request
 pub counted-good : (q : Request) {x : Sizes} → x ≡ sizesOf q → refusalOf q ≡ 0 → Counted q x
