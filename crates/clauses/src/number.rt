@@ -8,7 +8,7 @@ ghost use Prim.Native.Nat.{ℕ, _*_, _+_, _≤_};
 ghost use lib.ListN.{getD};
 ghost use Rattle.rows.specs.Rows.{bit, rowsOf};
 ghost use Rattle.request.specs.Numbers.{Good};
-ghost use Rattle.formula.specs.Clause.{literalsOf};
+ghost use Rattle.formula.specs.Clause.{literalsOf, packed};
 ghost use Rattle.formula.specs.Formula.{P, rowsFrom};
 ghost use Rattle.formula.specs.Count.{variablesBefore};
 ghost use Rattle.formula.specs.Number.{PlaceIs, clauseOf};
@@ -79,24 +79,21 @@ fn place_of(q: Request, number: u32) -> Place
 // The clause of the rows with this number; the empty one where there is none.
 fn row_clause_at(q: Request, number: u32) -> Clause
     requires { ⌜ Good q ⌝ }
-    ensures { λ x. ⌜ literalsOf x ≡ getD (rowsFrom (q .n) (q .r) (q .m) (P (q .r) + 2 * q .n * q .r) (rowsOf (q .n) (q .table))) number [] ⌝ }
+    ensures literals { λ x. ⌜ literalsOf x ≡ getD (rowsFrom (q .n) (q .r) (q .m) (P (q .r) + 2 * q .n * q .r) (rowsOf (q .n) (q .table))) number [] ⌝ }
+    ensures form { λ x. ⌜ x ≡ packed (getD (rowsFrom (q .n) (q .r) (q .m) (P (q .r) + 2 * q .n * q .r) (rowsOf (q .n) (q .table))) number []) ⌝ }
 {
     let p = place_of(q, number);
     let k = p.row;
     let rest = p.rest;
-    let n = q.n as u32;
-    let r = q.r as u32;
-    if 1u32 << n <= k {
-        return Clause::Run(0, 0);
-    }
     let before = variables_before(q, k);
     let on = rows::row_on(q.table, k as u8);
-    row_clauses::row_clause(n, r, q.m as u32, before, k, on, rest)
+    row_clauses::row_clause(q.n as u32, q.r as u32, q.m as u32, before, k, on, rest)
 }
 
 // The clause of a request with this number; the empty one where there is none, or where the request is refused.
 pub fn clause_at(q: Request, number: u32) -> Clause
-    ensures { λ x. ⌜ literalsOf x ≡ clauseOf q number ⌝ }
+    ensures literals { λ x. ⌜ literalsOf x ≡ clauseOf q number ⌝ }
+    ensures form { λ x. ⌜ x ≡ packed (clauseOf q number) ⌝ }
 {
     if request::numbers::test_request(q) != 0 {
         return Clause::Run(0, 0);

@@ -20,7 +20,8 @@ pub record PairIs (c q v w : ℕ) : Type 0 where
 unfoldable pub pairCount : ℕ → ℕ
 pairCount c = cond (leb c 16) (pairsBefore c c) 0
 
--- v and w are the pair with the number q among the pairs below c, and 0 and 0 where there is none
+-- v and w are the pair with the number q among the pairs below c, and 0 and 0 where there is none; no other v and w are
+-- (`pair-unique` of the laws)
 pub record PairAt (c q v w : ℕ) : Type 0 where
   pub there : q < pairCount c → PairIs c q v w
   pub none : pairCount c ≤ q → (v ≡ 0) × (w ≡ 0)

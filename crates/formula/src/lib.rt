@@ -2,7 +2,8 @@
 // definitions and laws are in specs/. No code.
 use cnf::Literal;
 
-// A clause: the positive literals of some variables in a row, from the first on, or one to three literals.
+// A clause: the positive literals of some variables in a row, from the first on, or one to three literals. Which of these a clause
+// of a request is, `packed` says (specs/Clause.antt).
 pub enum Clause {
     Run(u32, u32),
     One(Literal),

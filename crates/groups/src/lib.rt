@@ -8,7 +8,7 @@ ghost use mathlib.Core.List.{[]};
 ghost use Prim.Native.Nat.{_+_, _*_, _≤_, _<_};
 ghost use lib.ListN.{length, getD};
 ghost use Rattle.prelude.specs.Blocks.{flatten};
-ghost use Rattle.formula.specs.Clause.{literalsOf};
+ghost use Rattle.formula.specs.Clause.{literalsOf, packed, Packed};
 ghost use Rattle.formula.specs.Pairs.{pairsBefore, triplesBefore, TripleIs};
 ghost use Rattle.formula.specs.Formula.{triple, transitivity, choices};
 ghost use Rattle.formula.specs.Named.{networkClauses, networkLiterals, networkClause};
@@ -51,7 +51,7 @@ fn triple_at(count: u32, number: u32) -> Triple
 // One of the three clauses of i < j < k.
 fn triple_clause(r: u32, i: u32, j: u32, k: u32, part: u32) -> Clause
     requires { ⌜ (r ≤ 7) × (i < j) × (j < k) × (k < 2 * r + 2) × (part < 3) ⌝ }
-    ensures { λ x. ⌜ literalsOf x ≡ getD (triple r i j k) part [] ⌝ }
+    ensures { λ x. ⌜ (literalsOf x ≡ getD (triple r i j k) part []) × Packed x ⌝ }
 {
     let ij = variables::joined_number(r, i, j);
     let jk = variables::joined_number(r, j, k);
@@ -68,7 +68,7 @@ fn triple_clause(r: u32, i: u32, j: u32, k: u32, part: u32) -> Clause
 // The clause of group 1 with this number.
 fn transitivity_at(r: u32, number: u32) -> Clause
     requires { ⌜ (r ≤ 7) × (number < length (transitivity r)) ⌝ }
-    ensures { λ x. ⌜ literalsOf x ≡ getD (transitivity r) number [] ⌝ }
+    ensures { λ x. ⌜ (literalsOf x ≡ getD (transitivity r) number []) × Packed x ⌝ }
 {
     let t = triple_at(2 * r + 2, number / 3);
     triple_clause(r, t.i, t.j, t.k, number % 3)
@@ -101,7 +101,7 @@ fn choices_literals(n: u32, r: u32) -> u32
 // The clause of group 2 with this number.
 fn choice_at(n: u32, r: u32, number: u32) -> Clause
     requires { ⌜ (n ≤ 4) × (r ≤ 7) × (number < length (choices n r)) ⌝ }
-    ensures { λ x. ⌜ literalsOf x ≡ getD (choices n r) number [] ⌝ }
+    ensures { λ x. ⌜ (literalsOf x ≡ getD (choices n r) number []) × Packed x ⌝ }
 {
     let count = choice_count(n);
     let s = number / count;
@@ -146,7 +146,8 @@ pub fn network_literals(n: u32, r: u32) -> u32
 
 // The clause of groups 1 and 2 with this number; the empty one where there is none.
 pub fn network_clause(n: u32, r: u32, number: u32) -> Clause
-    ensures { λ x. ⌜ literalsOf x ≡ networkClause n r number ⌝ }
+    ensures literals { λ x. ⌜ literalsOf x ≡ networkClause n r number ⌝ }
+    ensures form { λ x. ⌜ x ≡ packed (networkClause n r number) ⌝ }
 {
     if 4 < n {
         return Clause::Run(0, 0);

@@ -3,7 +3,7 @@
 use formula::Clause;
 ghost use mathlib.Core.Path.{_≡_};
 ghost use Prim.Native.Nat.{_≤_};
-ghost use Rattle.formula.specs.Clause.{literalsOf};
+ghost use Rattle.formula.specs.Clause.{literalsOf, packed};
 ghost use Rattle.formula.specs.Row.{sized, rowCount, rowLiterals, rowClause};
 
 mod numbers;
@@ -55,7 +55,8 @@ pub fn row_literals(n: u32, r: u32, m: u32, on: bool) -> u32
 
 // The clause of row k with this number, where so many variables come before the row; the empty one where there is none.
 pub fn row_clause(n: u32, r: u32, m: u32, before: u32, k: u32, on: bool, number: u32) -> Clause
-    ensures { λ x. ⌜ literalsOf x ≡ rowClause n r m before k on number ⌝ }
+    ensures literals { λ x. ⌜ literalsOf x ≡ rowClause n r m before k on number ⌝ }
+    ensures form { λ x. ⌜ x ≡ packed (rowClause n r m before k on number) ⌝ }
 {
     if row_count(n, r, m, on) <= number {
         return Clause::Run(0, 0);

@@ -10,7 +10,7 @@ ghost use mathlib.Core.List.{[]};
 ghost use Prim.Native.Nat.{_^_, _*_, _+_, _≤_, _<_};
 ghost use lib.ListN.{getD};
 ghost use Rattle.rows.specs.Rows.{literalOn};
-ghost use Rattle.formula.specs.Clause.{literalsOf};
+ghost use Rattle.formula.specs.Clause.{literalsOf, Packed};
 ghost use Rattle.formula.specs.Formula.{sameSide, netSides, switchSides, offRow};
 ghost use Rattle.formula.specs.Formula.OffRow.{offRowLiterals};
 ghost use Rattle.formula.specs.Pairs.{pairsBefore};
@@ -34,7 +34,7 @@ pub(crate) fn off_row_literals(n: u32, r: u32) -> u32
 // A clause of three that keeps two terminals on one side where x is true: forth, or back.
 fn same_side(x: u32, a: u32, b: u32, part: u32) -> Clause
     requires { ⌜ part < 2 ⌝ }
-    ensures { λ q. ⌜ literalsOf q ≡ getD (sameSide x a b) part [] ⌝ }
+    ensures { λ q. ⌜ (literalsOf q ≡ getD (sameSide x a b) part []) × Packed q ⌝ }
 {
     if part == 0 {
         return Clause::Three(negative(x), negative(a), positive(b));
@@ -45,7 +45,7 @@ fn same_side(x: u32, a: u32, b: u32, part: u32) -> Clause
 // The clause for a pair of terminals.
 fn net_side_at(r: u32, before: u32, number: u32) -> Clause
     requires { ⌜ (r ≤ 7) × (before ≤ 10000) × (number < 2 * pairsBefore (2 * r + 2) (2 * r + 2)) ⌝ }
-    ensures { λ x. ⌜ literalsOf x ≡ getD (netSides r before) number [] ⌝ }
+    ensures { λ x. ⌜ (literalsOf x ≡ getD (netSides r before) number []) × Packed x ⌝ }
 {
     let p = pairs::pair_at(2 * r + 2, number / 2);
     let i = p.v;
@@ -61,7 +61,7 @@ fn net_side_at(r: u32, before: u32, number: u32) -> Clause
 // The clause for a switch and a literal that is 1 on row k.
 fn switch_side_at(n: u32, r: u32, before: u32, k: u32, number: u32) -> Clause
     requires { ⌜ (1 ≤ n) × (n ≤ 4) × (r ≤ 7) × (before ≤ 10000) × (k < 2 ^ n) × (number < r * (n * 2)) ⌝ }
-    ensures { λ x. ⌜ literalsOf x ≡ getD (switchSides n r before (literalOn n k)) number [] ⌝ }
+    ensures { λ x. ⌜ (literalsOf x ≡ getD (switchSides n r before (literalOn n k)) number []) × Packed x ⌝ }
 {
     let s = number / (n * 2);
     let v = values::literal_with(n, k, true, number % (n * 2) / 2);
@@ -76,13 +76,13 @@ fn switch_side_at(n: u32, r: u32, before: u32, k: u32, number: u32) -> Clause
 // The clause of an off row with this number.
 pub(crate) fn off_row_at(n: u32, r: u32, before: u32, k: u32, number: u32) -> Clause
     requires { ⌜ (1 ≤ n) × (n ≤ 4) × (r ≤ 7) × (before ≤ 10000) × (k < 2 ^ n) × (number < 2 + 2 * pairsBefore (2 * r + 2) (2 * r + 2) + r * (n * 2)) ⌝ }
-    ensures { λ x. ⌜ literalsOf x ≡ getD (offRow n r before (literalOn n k)) number [] ⌝ }
+    ensures { λ x. ⌜ (literalsOf x ≡ getD (offRow n r before (literalOn n k)) number []) × Packed x ⌝ }
 {
     if number == 0 {
         return Clause::One(negative(numbers::side(before, 0)));
     }
     if number == 1 {
-        return Clause::One(positive(numbers::side(before, 2 * r + 1)));
+        return Clause::Run(numbers::side(before, 2 * r + 1), 1);
     }
     let rest = number - 2;
     let sides = 2 * pairs::pairs_below(2 * r + 2);

@@ -11,7 +11,7 @@ ghost use Prim.Native.Nat.{_^_, _*_, _+_, _-_, _≤_, _<_};
 ghost use lib.ListN.{getD};
 ghost use Rattle.rows.specs.Rows.{literalOn};
 ghost use Rattle.network.specs.Networks.{other};
-ghost use Rattle.formula.specs.Clause.{literalsOf};
+ghost use Rattle.formula.specs.Clause.{literalsOf, Packed};
 ghost use Rattle.formula.specs.Formula.{closedStep, firstStep, linkStep, lastStep, onRow};
 ghost use Rattle.formula.specs.Formula.OnRow.{onRowCount, onRowLiterals};
 
@@ -52,7 +52,7 @@ fn other_end(e: u32) -> u32
 // For a step and an end: no literal that is 0 on row k.
 fn closed_step_at(n: u32, r: u32, m: u32, before: u32, k: u32, number: u32) -> Clause
     requires { ⌜ (1 ≤ n) × (n ≤ 4) × (r ≤ 7) × (m ≤ 7) × (before ≤ 10000) × (k < 2 ^ n) × (number < m * (2 * r * n)) ⌝ }
-    ensures { λ x. ⌜ literalsOf x ≡ getD (closedStep n r m before (literalOn n k)) number [] ⌝ }
+    ensures { λ x. ⌜ (literalsOf x ≡ getD (closedStep n r m before (literalOn n k)) number []) × Packed x ⌝ }
 {
     let step = 2 * r * n;
     let t = number / step + 1;
@@ -67,7 +67,7 @@ fn closed_step_at(n: u32, r: u32, m: u32, before: u32, k: u32, number: u32) -> C
 // The first step starts on the source's net.
 fn first_step_at(r: u32, before: u32, number: u32) -> Clause
     requires { ⌜ (r ≤ 7) × (before ≤ 10000) × (number < 2 * r + 1) ⌝ }
-    ensures { λ x. ⌜ literalsOf x ≡ getD (firstStep r before) number [] ⌝ }
+    ensures { λ x. ⌜ (literalsOf x ≡ getD (firstStep r before) number []) × Packed x ⌝ }
 {
     let e = number + 1;
     Clause::Two(
@@ -79,7 +79,7 @@ fn first_step_at(r: u32, before: u32, number: u32) -> Clause
 // A step follows the one before on one net: after e comes each g but e's other end, and the stop.
 fn link_step_at(r: u32, m: u32, before: u32, number: u32) -> Clause
     requires { ⌜ (r ≤ 7) × (m ≤ 7) × (before ≤ 10000) × (number < (m - 1) * (2 * r * (2 * r))) ⌝ }
-    ensures { λ x. ⌜ literalsOf x ≡ getD (linkStep r m before) number [] ⌝ }
+    ensures { λ x. ⌜ (literalsOf x ≡ getD (linkStep r m before) number []) × Packed x ⌝ }
 {
     let ends = 2 * r;
     let step = ends * ends;
@@ -98,7 +98,7 @@ fn link_step_at(r: u32, m: u32, before: u32, number: u32) -> Clause
 // The last step ends on the sink's net.
 fn last_step_at(r: u32, m: u32, before: u32, number: u32) -> Clause
     requires { ⌜ (r ≤ 7) × (1 ≤ m) × (m ≤ 7) × (before ≤ 10000) × (number < 2 * r) ⌝ }
-    ensures { λ x. ⌜ literalsOf x ≡ getD (lastStep r m before) number [] ⌝ }
+    ensures { λ x. ⌜ (literalsOf x ≡ getD (lastStep r m before) number []) × Packed x ⌝ }
 {
     let e = number + 1;
     Clause::Two(
@@ -110,10 +110,10 @@ fn last_step_at(r: u32, m: u32, before: u32, number: u32) -> Clause
 // The clause of an on row with this number.
 pub(crate) fn on_row_at(n: u32, r: u32, m: u32, before: u32, k: u32, number: u32) -> Clause
     requires { ⌜ (1 ≤ n) × (n ≤ 4) × (r ≤ 7) × (m ≤ 7) × (before ≤ 10000) × (k < 2 ^ n) × (number < onRowCount n r m) ⌝ }
-    ensures { λ x. ⌜ literalsOf x ≡ getD (onRow n r m before (literalOn n k)) number [] ⌝ }
+    ensures { λ x. ⌜ (literalsOf x ≡ getD (onRow n r m before (literalOn n k)) number []) × Packed x ⌝ }
 {
     if m == 0 {
-        return Clause::One(positive(numbers::joined(r, 0, 2 * r + 1)));
+        return Clause::Run(numbers::joined(r, 0, 2 * r + 1), 1);
     }
     if number < m {
         return Clause::Run(numbers::entered(r, before, number + 1, 1), 2 * r + 1);

@@ -32,7 +32,7 @@ put-line-requires c κs =
     let l = c .before .before .before in
     let s = l .before .before in
     let a = s .args in
-    let e = c .clause-at .ensures in
+    let e = c .clause-at .ensures .0 in
     let m = lines-length (a .q) (s .pre .0) (l .loop .k) (omega arith) e in
     let r = body-room (formulaOf (a .q)) (l .loop .k + 1) in
     (rw e (clause-low _ _), omega (arith, l .loop .inv .1, l .loop .inv .2 .0, s .pre .2))
@@ -51,7 +51,7 @@ loop-again c =
     let a = s .args in
     let k = l .loop .k in
     let h = c .before .before .before .before .before .loop-test .taken in
-    let e = c .before .before .before .clause-at .ensures in
+    let e = c .before .before .before .clause-at .ensures .0 in
     let r = body-room (formulaOf (a .q)) (k + 1) in (
       omega (arith, h),
       p .kept .0 ∙ l .loop .inv .1,

@@ -148,10 +148,10 @@ unfolding offRow
 off-row-source n r B value number a x e f g = rw (e, g, f)
 
 -- the second: the sink's side
-pub off-row-sink : (n r B : ℕ) (value : ℕ → Bool) (number b : ℕ) (x : Literal) → number ≡ 1 → b ≡ S B (2 * r + 1) → x ≡ pos b
-    → x ∷ [] ≡ getD (offRow n r B value) number []
+pub off-row-sink : (n r B : ℕ) (value : ℕ → Bool) (number b : ℕ) → number ≡ 1 → b ≡ S B (2 * r + 1)
+    → pos b ∷ [] ≡ getD (offRow n r B value) number []
 unfolding offRow
-off-row-sink n r B value number b x e f g = rw (e, g, f)
+off-row-sink n r B value number b e f = rw (e, f)
 
 -- the clauses after them
 off-row-rest : (n r B : ℕ) (value : ℕ → Bool) (number : ℕ) → 2 ≤ number

@@ -1,7 +1,8 @@
 -- Laws of a clause by its number: what stands at a number by the part of the formula that it lies in. Assumes nothing.
 use mathlib.Core.Path.{_≡_, sym, ap, ap₂, _∙_, subst}
-use mathlib.Core.Bool.{Bool, true, false, cond}
+use mathlib.Core.Bool.{Bool, cond}
 use mathlib.Core.List.{List, [], _++_, append-assoc}
+use mathlib.Core.Logic.{⊎-elim}
 use Prim.Native.Nat.{ℕ, _+_, _-_, _*_, _^_, _≤_, _<_}
 use native.Mathlib.Nat.{zero-add}
 use native.Mathlib.Numerals.{add-one}
@@ -10,15 +11,16 @@ use borrow.Author.Tests.{le-leb, ne-eqb}
 use lib.Dec.{eqb, eqb→eq}
 use lib.ListN.{length, getD, take, List·getD-append, List·getD-eq-default}
 use lib.Seq.{getD-append-add}
+use Rattle.prelude.specs.Tests.{le?}
 use Rattle.prelude.specs.Lists.{Each}
 use Rattle.prelude.specs.Lists.Laws.{getD-right, take-tab, each-cond, each-then, each-get}
 use Rattle.cnf.specs.Cnf.{Formula}
-use Rattle.rows.specs.Rows.{Row, bit, literalOn, rowAt, rowsOf}
+use Rattle.rows.specs.Rows.{Row, bit, rowAt, rowsOf}
 use Rattle.rows.specs.Rows.Laws.{rows-length, rows-at as row-at}
 use Rattle.request.specs.Numbers.{Good, refusalOf}
 use Rattle.request.specs.Numbers.Laws.{good-refusal, refusal-good}
 use Rattle.request.specs.declared.Request.{Request}
-use Rattle.formula.specs.Formula.{P, transitivity, choices, onRow, offRow, rowClauses, rowsFrom, formula, formulaOf}
+use Rattle.formula.specs.Formula.{P, transitivity, choices, rowClauses, rowsFrom, formula, formulaOf}
 use Rattle.formula.specs.Formula.OnRow.{onRowCount}
 use Rattle.formula.specs.Formula.OffRow.{offRowCount}
 use Rattle.formula.specs.Formula.Rows.{variablesIn, rows-at}
@@ -28,7 +30,7 @@ use Rattle.formula.specs.Count.Laws.{rowsBelow, variables-below, row-len
 use Rattle.formula.specs.Named.{networkClauses, networkClause}
 use Rattle.formula.specs.Named.Laws.{clauses-there, clause-inside}
 use Rattle.formula.specs.Row.{clausesOf, rowClause}
-use Rattle.formula.specs.Row.Laws.{good-sized, clause-is}
+use Rattle.formula.specs.Row.Laws.{good-sized, clause-is, clause-row}
 use Rattle.formula.specs.Number.{clauseOf, PlaceIs}
 
 -- a good request's clauses are the formula's
@@ -124,7 +126,7 @@ module _ (q : Request) (good : Good q) where
       ∙ ap₂ (λ (B : ℕ) (x : Row). getD (rowClauses (q .n) (q .r) (q .m) B x) rest []) vars row
 
   -- past the last row there is none
-  pub row-past : (number k rest : ℕ) → PlaceIs q number k rest → 2 ^ (q .n) ≤ k → [] ≡ getD (rowsFrom (q .n) (q .r) (q .m) base rows) number []
+  row-past : (number k rest : ℕ) → PlaceIs q number k rest → 2 ^ (q .n) ≤ k → [] ≡ getD (rowsFrom (q .n) (q .r) (q .m) base rows) number []
   unfolding clausesBefore rowsOf
   row-past number k rest p h =
       let most = p .row-most in
@@ -134,14 +136,18 @@ module _ (q : Request) (good : Good q) where
       ∙ ap (clausesBefore q) (sym e) in
       sym (List·getD-eq-default (rowsFrom (q .n) (q .r) (q .m) base rows) [] (omega (arith, p .place)))
 
-  -- by the numbers that the row has
-  pub row-clause-is : (number k rest B : ℕ) (on : Bool) → PlaceIs q number k rest → k < 2 ^ (q .n) → on ≡ bit (q .table) k → B ≡ variablesBefore q k → B ≤ 10000
+  -- by the numbers that the row has, and past the last row
+  pub row-clause-is : (number k rest B : ℕ) (on : Bool) → PlaceIs q number k rest → on ≡ bit (q .table) k → B ≡ variablesBefore q k → B ≤ 10000
       → rowClause (q .n) (q .r) (q .m) B k on rest ≡ getD (rowsFrom (q .n) (q .r) (q .m) base rows) number []
   unfolding rowClauses
-  row-clause-is number k rest B on p h e f l =
+  row-clause-is number k rest B on p e f l =
+      ⊎-elim (λ (h : 2 ^ (q .n) ≤ k).
+      sym (clause-row (q .n) (q .r) (q .m) B k on rest (good-sized q good) l h) ∙ row-past number k rest p h)
+      (λ (h : k < 2 ^ (q .n)).
       clause-is (q .n) (q .r) (q .m) B k on rest (good-sized q good) l h
       ∙ ap₂ (λ (b : Bool) (x : ℕ). getD (clausesOf (q .n) (q .r) (q .m) x k b) rest []) e f
-      ∙ sym (row-clause number k rest p h)
+      ∙ sym (row-clause number k rest p h))
+      (le? (2 ^ (q .n)) k)
 
 -- one row further in the search for a place
 pub place-none : (table a b number : ℕ) → number ≡ split table a b 0 + number

@@ -14,7 +14,7 @@ use Rattle.prelude.specs.Tests.{le?}
 use Rattle.prelude.specs.Finite.{below-at}
 use Rattle.prelude.specs.Blocks.{each, for}
 use Rattle.prelude.specs.Blocks.Laws.{each-same, each-length, each-at, each-index}
-use Rattle.formula.specs.Pairs.{pairsBefore, pairCount, PairIs, triplesBefore, TripleIs}
+use Rattle.formula.specs.Pairs.{pairsBefore, pairCount, PairIs, PairAt, triplesBefore, TripleIs}
 
 -- a count that is not used up lies below the end
 pub inside : (f : ℕ → ℕ) (c v q : ℕ) → v ≤ c → f v + q < f c → v < c
@@ -61,6 +61,30 @@ count-many c h = rw (lt-leb c 16 h)
 pub count-inside : (c q : ℕ) → q < pairCount c → (c ≤ 16) × (q < pairsBefore c c)
 count-inside c q h =
     ⊎-elim (λ (l : c ≤ 16). let e = count-there c l in (l, omega arith)) (λ (m : 16 < c). let e = count-many c m in absurd (omega arith)) (le? c 16)
+
+-- a row of pairs ends before a later one starts
+pairs-grow : (c v x : ℕ) → v < x → pairsBefore c v + (c - (v + 1)) ≤ pairsBefore c x
+unfolding pairsBefore
+pairs-grow c v zero h = absurd (omega arith)
+pairs-grow c v (suc x) h =
+    ⊎-elim (λ (l : x ≤ v). let e : v ≡ x = omega arith in rw e (omega arith)) (λ (l : v < x). let g = pairs-grow c v x l in omega arith) (le? x v)
+
+-- the v of a pair is at most that of any pair with its number
+pair-first : (c q v w x y : ℕ) → PairIs c q v w → PairIs c q x y → v ≤ x
+pair-first c q v w x y p s =
+    ⊎-elim (λ (l : v ≤ x). l) (λ (l : x < v). let g = pairs-grow c x v l in absurd (omega arith)) (le? v x)
+
+-- a number has one pair, or none
+pub pair-unique : (c q v w x y : ℕ) → PairAt c q v w → PairAt c q x y → (v ≡ x) × (w ≡ y)
+pair-unique c q v w x y p s =
+    ⊎-elim (λ (l : pairCount c ≤ q). let a = p .none l in let b = s .none l in (omega arith, omega arith)) (λ (l : q < pairCount c).
+    let a = p .there l in
+    let b = s .there l in
+    let f = pair-first c q v w x y a b in
+    let g = pair-first c q x y v w b a in
+    let e : v ≡ x = omega arith in
+    let k : pairsBefore c v ≡ pairsBefore c x = ap (pairsBefore c) e in
+    (e, omega arith)) (le? (pairCount c) q)
 
 module _ {A : Type 0} (b : ℕ) where
   -- blocks g v w for the pairs v < w below c, in rows of one v

@@ -3,9 +3,10 @@
 use Rattle.cnf.specs.Cnf.{neg}
 use Rattle.formula.specs.Formula.Groups.{choice-switch, choice-pair, choice-long-is, choice-pair-is}
 use Rattle.formula.specs.Clause.{run}
+use Rattle.formula.specs.Clause.Laws.{negative-is}
 use Rattle.formula.specs.Pairs.Laws.{count-there}
-use Rattle.formula.specs.Named.Laws.{chosen-there, chosen-run}
-use mathlib.Core.Path.{ap, _∙_}
+use Rattle.formula.specs.Named.Laws.{chosen-there, chosen-literal, chosen-run}
+use mathlib.Core.Path.{sym, ap, _∙_}
 use Prim.Native.Nat.{ℕ, _*_, _%_, _<_}
 use native.Mathlib.Omega.{arith}
 use borrow.Author.Needs.{needs}
@@ -32,9 +33,11 @@ returns c =
     let st = c .before .before .before in
     let a = st .args in
     let z = c .before .before .choice-count in
-    let s = choice-switch (a .n) (a .r) (a .number) (z .result) (z .ensures .0) (st .pre .2) in
-    choice-long-is (a .n) (a .r) (a .number) (z .result) (c .chosen-number .result) (z .ensures .0) (st .pre .2) (c .before .if1 .taken)
-    (ap (λ (x : ℕ). run x (2 * a .n)) (c .chosen-number .ensures) ∙ chosen-run (a .n) (a .r) _ (st .pre .0) (st .pre .1) s)
+    let s = choice-switch (a .n) (a .r) (a .number) (z .result) (z .ensures .0) (st .pre .2) in (
+      choice-long-is (a .n) (a .r) (a .number) (z .result) (c .chosen-number .result) (z .ensures .0) (st .pre .2) (c .before .if1 .taken)
+          (ap (λ (x : ℕ). run x (2 * a .n)) (c .chosen-number .ensures) ∙ chosen-run (a .n) (a .r) _ (st .pre .0) (st .pre .1) s),
+      λ e. c .chosen-number .ensures ∙ sym (chosen-literal (a .n) (a .r) _ 0 (st .pre .0) (st .pre .1) s (omega arith)),
+    )
 
 mul-pair-at : tie.Need-mul-pair-at
 mul-pair-at c = search needs
@@ -69,11 +72,13 @@ returns-2 c =
     let all = count-there (2 * a .n) (omega arith) in
     let p = at-pair .pair-at .ensures .there (omega arith) in
     let up = p .up in
-    let low = p .within in
-    choice-pair-is (a .n) (a .r) (a .number) (z .result) (at-pair .pair-at .result .v) (at-pair .pair-at .result .w) _ _
-    (z .ensures .0) (st .pre .2) q p
-    (c .before .before .negative .ensures ∙ ap neg (c .before .before .before .chosen-number2 .ensures ∙ chosen-there _ _ _ _ (st .pre .0) (st .pre .1) s (omega arith)))
-    (c .negative2 .ensures ∙ ap neg (c .before .chosen-number3 .ensures ∙ chosen-there _ _ _ _ (st .pre .0) (st .pre .1) s low))
+    let low = p .within in (
+      choice-pair-is (a .n) (a .r) (a .number) (z .result) (at-pair .pair-at .result .v) (at-pair .pair-at .result .w) _ _
+          (z .ensures .0) (st .pre .2) q p
+          (c .before .before .negative .ensures ∙ ap neg (c .before .before .before .chosen-number2 .ensures ∙ chosen-there _ _ _ _ (st .pre .0) (st .pre .1) s (omega arith)))
+          (c .negative2 .ensures ∙ ap neg (c .before .chosen-number3 .ensures ∙ chosen-there _ _ _ _ (st .pre .0) (st .pre .1) s low)),
+      negative-is (c .before .before .negative .ensures),
+    )
 
 pub choice-at-spec : {M : Type 1} → statement M
 choice-at-spec =

@@ -18,8 +18,10 @@ triple-clause-requires : tie.Need-triple-clause-requires
 triple-clause-requires c κs = search needs
 
 returns : tie.Need-returns
-returns c =
-    transitivity-is (c .before .before .args .r) (c .before .before .args .number) _ _ _ _ (c .before .triple-at .ensures) (c .triple-clause .ensures)
+returns c = (
+  transitivity-is (c .before .before .args .r) (c .before .before .args .number) _ _ _ _ (c .before .triple-at .ensures) (c .triple-clause .ensures .0),
+  c .triple-clause .ensures .1,
+)
 
 pub transitivity-at-spec : {M : Type 1} → statement M
 transitivity-at-spec =

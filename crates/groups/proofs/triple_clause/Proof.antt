@@ -1,4 +1,5 @@
 -- One law for each of the three clauses. Assumes nothing.
+use Rattle.formula.specs.Clause.Laws.{negative-is}
 use Rattle.formula.specs.Formula.Groups.{triple-first, triple-second, triple-third}
 use Rattle.formula.specs.Named.Laws.{joined-there}
 use mathlib.Core.Path.{_∙_}
@@ -27,12 +28,14 @@ positive-requires c κs = search needs
 
 returns : tie.Need-returns
 returns c =
-    let a = c .before .before .before .before .before .before .before .args in
-    triple-first (a .r) (a .i) (a .j) (a .k) (a .part) _ _ _ _ _ _ (c .before .before .before .if1 .taken)
-    (c .before .before .before .before .before .before .joined-number .ensures ∙ joined-there _ _ _ (omega arith) (omega arith) (omega arith) (λ e. omega arith))
-    (c .before .before .before .before .before .joined-number2 .ensures ∙ joined-there _ _ _ (omega arith) (omega arith) (omega arith) (λ e. omega arith))
-    (c .before .before .before .before .joined-number3 .ensures ∙ joined-there _ _ _ (omega arith) (omega arith) (omega arith) (λ e. omega arith))
-    (c .before .before .negative .ensures) (c .before .negative2 .ensures) (c .positive .ensures)
+    let a = c .before .before .before .before .before .before .before .args in (
+      triple-first (a .r) (a .i) (a .j) (a .k) (a .part) _ _ _ _ _ _ (c .before .before .before .if1 .taken)
+          (c .before .before .before .before .before .before .joined-number .ensures ∙ joined-there _ _ _ (omega arith) (omega arith) (omega arith) (λ e. omega arith))
+          (c .before .before .before .before .before .joined-number2 .ensures ∙ joined-there _ _ _ (omega arith) (omega arith) (omega arith) (λ e. omega arith))
+          (c .before .before .before .before .joined-number3 .ensures ∙ joined-there _ _ _ (omega arith) (omega arith) (omega arith) (λ e. omega arith))
+          (c .before .before .negative .ensures) (c .before .negative2 .ensures) (c .positive .ensures),
+      negative-is (c .before .before .negative .ensures),
+    )
 
 negative-requires-3 : tie.Need-negative-requires-3
 negative-requires-3 c κs = search needs
@@ -46,10 +49,12 @@ positive-requires-2 c κs = search needs
 returns-2 : tie.Need-returns-2
 returns-2 c =
     let at = c .before .before .before .before .before in
-    let a = at .before .before .before .args in
-    triple-second (a .r) (a .i) (a .j) (a .k) (a .part) _ _ _ _ _ _ (c .before .before .before .if2 .taken)
-    (at .before .before .joined-number .ensures ∙ joined-there _ _ _ (omega arith) (omega arith) (omega arith) (λ e. omega arith)) (at .before .joined-number2 .ensures ∙ joined-there _ _ _ (omega arith) (omega arith) (omega arith) (λ e. omega arith)) (at .joined-number3 .ensures ∙ joined-there _ _ _ (omega arith) (omega arith) (omega arith) (λ e. omega arith))
-    (c .before .before .negative3 .ensures) (c .before .negative4 .ensures) (c .positive2 .ensures)
+    let a = at .before .before .before .args in (
+      triple-second (a .r) (a .i) (a .j) (a .k) (a .part) _ _ _ _ _ _ (c .before .before .before .if2 .taken)
+          (at .before .before .joined-number .ensures ∙ joined-there _ _ _ (omega arith) (omega arith) (omega arith) (λ e. omega arith)) (at .before .joined-number2 .ensures ∙ joined-there _ _ _ (omega arith) (omega arith) (omega arith) (λ e. omega arith)) (at .joined-number3 .ensures ∙ joined-there _ _ _ (omega arith) (omega arith) (omega arith) (λ e. omega arith))
+          (c .before .before .negative3 .ensures) (c .before .negative4 .ensures) (c .positive2 .ensures),
+      negative-is (c .before .before .negative3 .ensures),
+    )
 
 negative-requires-5 : tie.Need-negative-requires-5
 negative-requires-5 c κs = search needs
@@ -63,10 +68,12 @@ positive-requires-3 c κs = search needs
 returns-3 : tie.Need-returns-3
 returns-3 c =
     let at = c .before .before .before .before .before in
-    let a = at .before .before .before .args in
-    triple-third (a .r) (a .i) (a .j) (a .k) (a .part) _ _ _ _ _ _ (omega arith)
-    (at .before .before .joined-number .ensures ∙ joined-there _ _ _ (omega arith) (omega arith) (omega arith) (λ e. omega arith)) (at .before .joined-number2 .ensures ∙ joined-there _ _ _ (omega arith) (omega arith) (omega arith) (λ e. omega arith)) (at .joined-number3 .ensures ∙ joined-there _ _ _ (omega arith) (omega arith) (omega arith) (λ e. omega arith))
-    (c .before .before .negative5 .ensures) (c .before .negative6 .ensures) (c .positive3 .ensures)
+    let a = at .before .before .before .args in (
+      triple-third (a .r) (a .i) (a .j) (a .k) (a .part) _ _ _ _ _ _ (omega arith)
+          (at .before .before .joined-number .ensures ∙ joined-there _ _ _ (omega arith) (omega arith) (omega arith) (λ e. omega arith)) (at .before .joined-number2 .ensures ∙ joined-there _ _ _ (omega arith) (omega arith) (omega arith) (λ e. omega arith)) (at .joined-number3 .ensures ∙ joined-there _ _ _ (omega arith) (omega arith) (omega arith) (λ e. omega arith))
+          (c .before .before .negative5 .ensures) (c .before .negative6 .ensures) (c .positive3 .ensures),
+      negative-is (c .before .before .negative5 .ensures),
+    )
 
 pub triple-clause-spec : {M : Type 1} → statement M
 triple-clause-spec =

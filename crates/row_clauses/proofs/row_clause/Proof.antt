@@ -1,10 +1,10 @@
 -- Past every test the row is one of a request's, and has the clause. Assumes nothing.
-use Rattle.formula.specs.Clause.Laws.{run-none}
+use Rattle.formula.specs.Clause.Laws.{form-of, form-none}
 use Rattle.formula.specs.Row.{sized}
 use Rattle.formula.specs.Row.Laws.{sized-is, count-sized, count-on, count-off, clause-past, clause-high, clause-row, clause-on, clause-off}
 use Rattle.request.specs.Numbers.Laws.{rows-shl}
 use mathlib.Core.Bool.{true}
-use mathlib.Core.Path.{_≡_, sym, _∙_}
+use mathlib.Core.Path.{_≡_}
 use Prim.Native.Nat.{_*_, _%_, _^_, _<_}
 use native.Mathlib.Omega.{arith}
 use borrow.Author.Needs.{needs}
@@ -15,14 +15,14 @@ row-count-requires : tie.Need-row-count-requires
 row-count-requires c κs = search needs
 
 returns : tie.Need-returns
-returns c = run-none 0 ∙ clause-past _ _ _ _ _ _ _ (omega arith)
+returns c = form-none (clause-past _ _ _ _ _ _ _ (omega arith))
 
 -- past the first test the numbers are a request's
 good : (c : tie.Else1) → sized (c .before .before .args .n) (c .before .before .args .r) (c .before .before .args .m) ≡ true
 good c = count-sized _ _ _ (c .before .before .args .on) (c .before .before .args .number) (omega arith)
 
 returns-2 : tie.Need-returns-2
-returns-2 c = run-none 0 ∙ clause-high _ _ _ _ _ _ _ (good (c .before)) (c .if2 .taken)
+returns-2 c = form-none (clause-high _ _ _ _ _ _ _ (good (c .before)) (c .if2 .taken))
 
 shl-if3 : tie.Need-shl-if3
 shl-if3 c = omega (arith, sized-is _ _ _ (good (c .before)) .n-high)
@@ -32,7 +32,7 @@ rows : (c : tie.Else2) → 1 * 2 ^ (c .before .before .before .args .n) % 2 ^ 32
 rows c = rows-shl (c .before .before .before .args .n) 32 (sized-is _ _ _ (good (c .before)) .n-high) (omega arith)
 
 returns-3 : tie.Need-returns-3
-returns-3 c = run-none 0 ∙ clause-row _ _ _ _ _ _ _ (good (c .before .before)) (omega arith) (omega (arith, rows (c .before)))
+returns-3 c = form-none (clause-row _ _ _ _ _ _ _ (good (c .before .before)) (omega arith) (omega (arith, rows (c .before))))
 
 -- past the third test the row is one of the table's
 low : (c : tie.Else3) → c .before .before .before .before .args .k < 2 ^ (c .before .before .before .before .args .n)
@@ -48,7 +48,7 @@ on-row-at-requires c κs =
 returns-4 : tie.Need-returns-4
 returns-4 c =
     let e = c .before .before .before .before in
-    c .on-row-at .ensures ∙ clause-on _ _ _ _ _ _ _ (good e) (omega (arith, c .before)) (low (c .before .before)) (c .before .if4 .taken)
+    form-of (c .on-row-at .ensures) (clause-on _ _ _ _ _ _ _ (good e) (omega (arith, c .before)) (low (c .before .before)) (c .before .if4 .taken))
 
 off-row-at-requires : tie.Need-off-row-at-requires
 off-row-at-requires c κs =
@@ -60,7 +60,7 @@ off-row-at-requires c κs =
 returns-5 : tie.Need-returns-5
 returns-5 c =
     let e = c .before .before .before .before in
-    c .off-row-at .ensures ∙ clause-off _ _ _ _ _ _ _ (good e) (omega (arith, c .before)) (low (c .before .before)) (c .before .if4 .left)
+    form-of (c .off-row-at .ensures) (clause-off _ _ _ _ _ _ _ (good e) (omega (arith, c .before)) (low (c .before .before)) (c .before .if4 .left))
 
 pub row-clause-spec : {M : Type 1} → statement M
 row-clause-spec =

@@ -27,7 +27,7 @@ clause-at-requires : tie.Need-clause-at-requires Inv-loop μ-loop
 clause-at-requires c κs = search needs
 
 line-length-requires : tie.Need-line-length-requires Inv-loop μ-loop
-line-length-requires c κs = rw (c .clause-at .ensures) (clause-low _ _)
+line-length-requires c κs = rw (c .clause-at .ensures .0) (clause-low _ _)
 
 add-total : tie.Need-add-total Inv-loop μ-loop
 add-total c = search needs
@@ -43,7 +43,7 @@ loop-again c =
     let l = c .before .before .before in
     let s = l .before in
     let k = l .loop .k in
-    let m = lines-length (s .args .q) (s .pre .0) k (omega arith) (c .before .clause-at .ensures) in
+    let m = lines-length (s .args .q) (s .pre .0) k (omega arith) (c .before .clause-at .ensures .0) in
     (omega arith, omega arith, omega arith)
 
 returns : tie.Need-returns Inv-loop μ-loop

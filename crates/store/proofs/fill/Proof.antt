@@ -112,7 +112,7 @@ put-clause-requires : tie.Need-put-clause-requires Inv-loop μ-loop
 put-clause-requires c κs =
     let l = c .before .before .before in
     let s = l .before .before in
-    let fits = clause-fits (s .args .q) (s .args .literals .now) (s .args .pairs .now) (s .args .count) (s .pre) _ _ _ (c .before .before .loop-test .taken) (l .loop .inv .place) (c .before .clause-at .ensures) in
+    let fits = clause-fits (s .args .q) (s .args .literals .now) (s .args .pairs .now) (s .args .count) (s .pre) _ _ _ (c .before .before .loop-test .taken) (l .loop .inv .place) (c .before .clause-at .ensures .0) in
     (fits .0, omega (arith, fits .1, l .loop .inv .literals-long))
 
 cast-put-pair : tie.Need-cast-put-pair Inv-loop μ-loop
@@ -122,7 +122,7 @@ cast-put-pair-2 : tie.Need-cast-put-pair-2 Inv-loop μ-loop
 cast-put-pair-2 c =
     let l = c .before .before .before .before .before .before in
     let s = l .before .before in
-    let fits = clause-fits (s .args .q) (s .args .literals .now) (s .args .pairs .now) (s .args .count) (s .pre) _ _ _ (c .before .before .before .before .before .loop-test .taken) (l .loop .inv .place) (c .before .before .before .before .clause-at .ensures) in
+    let fits = clause-fits (s .args .q) (s .args .literals .now) (s .args .pairs .now) (s .args .count) (s .pre) _ _ _ (c .before .before .before .before .before .loop-test .taken) (l .loop .inv .place) (c .before .before .before .before .clause-at .ensures .0) in
     omega (arith, fits .2)
 
 sub-put-pair : tie.Need-sub-put-pair Inv-loop μ-loop
@@ -132,7 +132,7 @@ cast-put-pair-3 : tie.Need-cast-put-pair-3 Inv-loop μ-loop
 cast-put-pair-3 c =
     let l = c .before .before .before .before .before .before in
     let s = l .before .before in
-    let fits = clause-fits (s .args .q) (s .args .literals .now) (s .args .pairs .now) (s .args .count) (s .pre) _ _ _ (c .before .before .before .before .before .loop-test .taken) (l .loop .inv .place) (c .before .before .before .before .clause-at .ensures) in
+    let fits = clause-fits (s .args .q) (s .args .literals .now) (s .args .pairs .now) (s .args .count) (s .pre) _ _ _ (c .before .before .before .before .before .loop-test .taken) (l .loop .inv .place) (c .before .before .before .before .clause-at .ensures .0) in
     omega (arith, fits .2, c .before .before .put-clause .ensures .0)
 
 put-pair-requires : tie.Need-put-pair-requires Inv-loop μ-loop
@@ -155,7 +155,7 @@ loop-again c =
     let l = got .before .before in
     let s = l .before .before in
     filled-more (s .args .q) (s .args .literals .now) (s .args .pairs .now) (s .args .count) (s .pre) _ _ _ _ _ _ _ _ _ (l .loop .inv) (got .before .loop-test .taken)
-    (got .clause-at .ensures) (clause .put-clause .ensures .0) refl (clause .put-clause .kept .0) (pair .put-pair .kept .0) (clause .put-clause .ensures .1) (pair .put-pair .ensures)
+    (got .clause-at .ensures .0) (clause .put-clause .ensures .0) refl (clause .put-clause .kept .0) (pair .put-pair .kept .0) (clause .put-clause .ensures .1) (pair .put-pair .ensures)
 
 same-length : tie.Need-same-length Inv-loop μ-loop
 same-length c = search needs

@@ -1,5 +1,5 @@
 -- A refused request has no clauses; a good one's are those of groups 1 and 2, then the rows'. Assumes nothing.
-use Rattle.formula.specs.Clause.Laws.{run-none}
+use Rattle.formula.specs.Clause.Laws.{form-none, form-as}
 use Rattle.formula.specs.Number.Laws.{clause-good, clause-refused, in-network, in-rows}
 use Rattle.request.specs.Numbers.{Good}
 use Rattle.request.specs.Numbers.Laws.{refusal-good}
@@ -20,7 +20,7 @@ good c = refusal-good (c .before .before .args .q) (sym (c .before .test-request
 returns : tie.Need-returns
 returns c =
     let s = c .before .before in
-    run-none 0 ∙ clause-refused (s .args .q) (s .args .number) (c .before .test-request .result) (c .before .test-request .ensures) (c .if1 .taken)
+    form-none (clause-refused (s .args .q) (s .args .number) (c .before .test-request .result) (c .before .test-request .ensures) (c .if1 .taken))
 
 cast-n : tie.Need-cast-n
 cast-n c = search needs
@@ -39,8 +39,9 @@ returns-2 c =
     let t = c .before .before in
     let e = t .before .before .before in
     let s = e .before .before in
-    c .network-clause .ensures ∙ in-network (s .args .q) (s .args .number) (good e) (omega (arith, t .network-clauses .ensures))
-    ∙ sym (clause-good (s .args .q) (s .args .number) (good e))
+    form-as (c .network-clause .ensures)
+    (in-network (s .args .q) (s .args .number) (good e) (omega (arith, t .network-clauses .ensures))
+    ∙ sym (clause-good (s .args .q) (s .args .number) (good e)))
 
 row-clause-at-requires : tie.Need-row-clause-at-requires
 row-clause-at-requires c κs = good (c .before .before .before .before)
@@ -51,9 +52,9 @@ returns-3 c =
     let e = t .before .before .before in
     let s = e .before .before in
     let n = t .network-clauses .ensures in
-    c .row-clause-at .ensures
-    ∙ sym (in-rows (s .args .q) (s .args .number) (s .args .number - t .network-clauses .result) (good e) (omega arith))
-    ∙ sym (clause-good (s .args .q) (s .args .number) (good e))
+    form-as (c .row-clause-at .ensures)
+    (sym (in-rows (s .args .q) (s .args .number) (s .args .number - t .network-clauses .result) (good e) (omega arith))
+    ∙ sym (clause-good (s .args .q) (s .args .number) (good e)))
 
 pub clause-at-spec : {M : Type 1} → statement M
 clause-at-spec =

@@ -27,11 +27,11 @@ clause-at-requires : tie.Need-clause-at-requires Inv-loop μ-loop
 clause-at-requires c κs = search needs
 
 clause-holds-requires : tie.Need-clause-holds-requires Inv-loop μ-loop
-clause-holds-requires c κs = rw (c .clause-at .ensures) (clause-low _ _)
+clause-holds-requires c κs = rw (c .clause-at .ensures .0) (clause-low _ _)
 
 returns : tie.Need-returns Inv-loop μ-loop
 returns c =
-    holding-not _ _ _ (c .before .before .before .before .loop .k) _ _ (omega arith) (c .before .before .clause-at .ensures)
+    holding-not _ _ _ (c .before .before .before .before .loop .k) _ _ (omega arith) (c .before .before .clause-at .ensures .0)
     (c .before .clause-holds .ensures) (not-true _ (c .if1 .taken))
 
 add-k : tie.Need-add-k Inv-loop μ-loop
@@ -44,7 +44,7 @@ loop-again : tie.Need-loop-again Inv-loop μ-loop
 loop-again c =
     let l = c .before .before .before .before in
     let holds =
-    holding-one _ (l .before .args .count) _ _ _ _ (c .before .before .clause-at .ensures) (c .before .clause-holds .ensures)
+    holding-one _ (l .before .args .count) _ _ _ _ (c .before .before .clause-at .ensures .0) (c .before .clause-holds .ensures)
     (not-false _ (c .if1 .left)) in
     (search needs, below-more _ _ (l .loop .inv .1) holds)
 

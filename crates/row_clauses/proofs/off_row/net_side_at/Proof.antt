@@ -39,9 +39,11 @@ same-side-requires c κs = search needs
 
 returns : tie.Need-returns
 returns c =
-    let a = c .before .before .before .before .before .args in
-    net-side-is (a .r) (a .before) (a .number) _ _ _ _ _ _ (found (c .before .before .before .before))
-    (c .before .before .before .joined .ensures) (c .before .before .side .ensures .0) (c .before .side2 .ensures .0) (c .same-side .ensures)
+    let a = c .before .before .before .before .before .args in (
+      net-side-is (a .r) (a .before) (a .number) _ _ _ _ _ _ (found (c .before .before .before .before))
+          (c .before .before .before .joined .ensures) (c .before .before .side .ensures .0) (c .before .side2 .ensures .0) (c .same-side .ensures .0),
+      c .same-side .ensures .1,
+    )
 
 pub net-side-at-spec : {M : Type 1} → statement M
 net-side-at-spec =

@@ -1,8 +1,10 @@
 -- One law for each return: the two clauses of one literal, the pairs of terminals, the switches. Assumes nothing.
+use Rattle.formula.specs.Clause.Laws.{run-one, negative-is}
 use Rattle.formula.specs.Formula.OffRow.{off-row-source, off-row-sink, off-row-net, off-row-switch}
 use Rattle.formula.specs.Pairs.Laws.{count-there}
 use Rattle.rows.specs.Rows.{literalOn}
 use Prim.Native.Nat.{_+_, _*_}
+use mathlib.Core.Path.{_∙_}
 use native.Mathlib.Omega.{arith}
 use borrow.Author.Needs.{needs}
 use Rattle.row_clauses.proofs.off_row.off_row_at.Statement.{statement}
@@ -16,9 +18,11 @@ negative-requires c κs = search needs
 
 returns : tie.Need-returns
 returns c =
-    let a = c .before .before .before .args in
-    off-row-source (a .n) (a .r) (a .before) (literalOn (a .n) (a .k)) (a .number) _ _
-    (c .before .before .if1 .taken) (c .before .side .ensures .0) (c .negative .ensures)
+    let a = c .before .before .before .args in (
+      off-row-source (a .n) (a .r) (a .before) (literalOn (a .n) (a .k)) (a .number) _ _
+          (c .before .before .if1 .taken) (c .before .side .ensures .0) (c .negative .ensures),
+      negative-is (c .negative .ensures),
+    )
 
 mul-side : tie.Need-mul-side
 mul-side c = search needs
@@ -29,14 +33,12 @@ add-side c = search needs
 side-requires-2 : tie.Need-side-requires-2
 side-requires-2 c κs = search needs
 
-positive-requires : tie.Need-positive-requires
-positive-requires c κs = search needs
-
 returns-2 : tie.Need-returns-2
 returns-2 c =
-    let a = c .before .before .before .before .args in
-    off-row-sink (a .n) (a .r) (a .before) (literalOn (a .n) (a .k)) (a .number) _ _
-    (c .before .before .if2 .taken) (c .before .side2 .ensures .0) (c .positive .ensures)
+    let a = c .before .before .before .args in (
+      run-one _ ∙ off-row-sink (a .n) (a .r) (a .before) (literalOn (a .n) (a .k)) (a .number) _ (c .before .if2 .taken) (c .side2 .ensures .0),
+      λ e. omega arith,
+    )
 
 sub-rest : tie.Need-sub-rest
 sub-rest c = search needs
@@ -62,8 +64,10 @@ net-side-at-requires c κs =
 returns-3 : tie.Need-returns-3
 returns-3 c =
     let a = c .before .before .before .before .before .args in
-    let all = count-there (2 * a .r + 2) (omega arith) in
-    off-row-net (a .n) (a .r) (a .before) (literalOn (a .n) (a .k)) (a .number) _ (omega arith) (omega arith) (c .net-side-at .ensures)
+    let all = count-there (2 * a .r + 2) (omega arith) in (
+      off-row-net (a .n) (a .r) (a .before) (literalOn (a .n) (a .k)) (a .number) _ (omega arith) (omega arith) (c .net-side-at .ensures .0),
+      c .net-side-at .ensures .1,
+    )
 
 switch-side-at-requires : tie.Need-switch-side-at-requires
 switch-side-at-requires c κs =
@@ -76,9 +80,11 @@ returns-4 : tie.Need-returns-4
 returns-4 c =
     let a = c .before .before .before .before .before .args in
     let all = count-there (2 * a .r + 2) (omega arith) in
-    let p = c .before .before .pairs-below in
-    off-row-switch (a .n) (a .r) (a .before) (literalOn (a .n) (a .k)) (a .number) (2 * p .result) _
-    (omega arith) (omega arith) (omega arith) (c .switch-side-at .ensures)
+    let p = c .before .before .pairs-below in (
+      off-row-switch (a .n) (a .r) (a .before) (literalOn (a .n) (a .k)) (a .number) (2 * p .result) _
+          (omega arith) (omega arith) (omega arith) (c .switch-side-at .ensures .0),
+      c .switch-side-at .ensures .1,
+    )
 
 pub off-row-at-spec : {M : Type 1} → statement M
 off-row-at-spec =
@@ -90,7 +96,6 @@ off-row-at-spec =
     mul-side
     add-side
     side-requires-2
-    positive-requires
     returns-2
     sub-rest
     mul-pairs-below

@@ -1,4 +1,5 @@
 -- One law for each of the two clauses. Assumes nothing.
+use Rattle.formula.specs.Clause.Laws.{negative-is}
 use Rattle.formula.specs.Formula.OffRow.{same-side-first, same-side-second}
 use native.Mathlib.Omega.{arith}
 use borrow.Author.Needs.{needs}
@@ -15,9 +16,11 @@ positive-requires : tie.Need-positive-requires
 positive-requires c κs = search needs
 
 returns : tie.Need-returns
-returns c =
-    same-side-first _ _ _ _ _ _ _ (c .before .before .before .if1 .taken)
-    (c .before .before .negative .ensures) (c .before .negative2 .ensures) (c .positive .ensures)
+returns c = (
+  same-side-first _ _ _ _ _ _ _ (c .before .before .before .if1 .taken)
+      (c .before .before .negative .ensures) (c .before .negative2 .ensures) (c .positive .ensures),
+  negative-is (c .before .before .negative .ensures),
+)
 
 negative-requires-3 : tie.Need-negative-requires-3
 negative-requires-3 c κs = search needs
@@ -30,9 +33,11 @@ negative-requires-4 c κs = search needs
 
 returns-2 : tie.Need-returns-2
 returns-2 c =
-    let a = c .before .before .before .before .args in
-    same-side-second (a .x) (a .a) (a .b) (a .part) _ _ _ (omega arith)
-    (c .before .before .negative3 .ensures) (c .before .positive2 .ensures) (c .negative4 .ensures)
+    let a = c .before .before .before .before .args in (
+      same-side-second (a .x) (a .a) (a .b) (a .part) _ _ _ (omega arith)
+          (c .before .before .negative3 .ensures) (c .before .positive2 .ensures) (c .negative4 .ensures),
+      negative-is (c .before .before .negative3 .ensures),
+    )
 
 pub same-side-spec : {M : Type 1} → statement M
 same-side-spec =

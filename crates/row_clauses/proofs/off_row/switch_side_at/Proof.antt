@@ -55,10 +55,12 @@ same-side-requires c κs = search needs
 returns : tie.Need-returns
 returns c =
     let s = c .before .before .before .before .before in
-    let a = s .args in
-    switch-side-is (a .n) (a .r) (a .before) (a .k) (a .number) _ _ _ _ _ (omega arith) (s .pre .4) (s .pre .5)
-    (c .before .before .before .before .literal-with .ensures)
-    (c .before .before .before .chosen .ensures) (c .before .before .side .ensures .0) (c .before .side2 .ensures .0) (c .same-side .ensures)
+    let a = s .args in (
+      switch-side-is (a .n) (a .r) (a .before) (a .k) (a .number) _ _ _ _ _ (omega arith) (s .pre .4) (s .pre .5)
+          (c .before .before .before .before .literal-with .ensures)
+          (c .before .before .before .chosen .ensures) (c .before .before .side .ensures .0) (c .before .side2 .ensures .0) (c .same-side .ensures .0),
+      c .same-side .ensures .1,
+    )
 
 pub switch-side-at-spec : {M : Type 1} → statement M
 switch-side-at-spec =

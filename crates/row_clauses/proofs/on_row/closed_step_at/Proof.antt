@@ -4,6 +4,7 @@ use mathlib.Core.List.{[], _∷_}
 use Rattle.cnf.specs.Cnf.{neg}
 use Rattle.cnf.specs.declared.Literal.{Literal}
 use Rattle.prelude.specs.Blocks.Laws.{digits-low}
+use Rattle.formula.specs.Clause.Laws.{negative-is}
 use Rattle.formula.specs.Formula.OnRow.{ends-most, closed-at}
 use native.Mathlib.Omega.{arith}
 use borrow.Author.Needs.{needs}
@@ -64,10 +65,12 @@ negative-requires-2 c κs = search needs
 returns : tie.Need-returns
 returns c =
     let s = c .before .before .before .before .before in
-    let w = c .before .before in
-    ap₂ (λ (x y : Literal). x ∷ y ∷ []) (w .negative .ensures ∙ ap neg (w .before .entered .ensures .0))
-    (c .negative2 .ensures ∙ ap neg (c .before .chosen .ensures))
-    ∙ sym (closed-at (s .args .n) (s .args .r) (s .args .m) (s .args .before) (s .args .k) (s .pre .1) (s .pre .5) (s .args .number) _ (s .pre .6) (w .before .before .literal-with .ensures))
+    let w = c .before .before in (
+      ap₂ (λ (x y : Literal). x ∷ y ∷ []) (w .negative .ensures ∙ ap neg (w .before .entered .ensures .0))
+          (c .negative2 .ensures ∙ ap neg (c .before .chosen .ensures))
+          ∙ sym (closed-at (s .args .n) (s .args .r) (s .args .m) (s .args .before) (s .args .k) (s .pre .1) (s .pre .5) (s .args .number) _ (s .pre .6) (w .before .before .literal-with .ensures)),
+      negative-is (w .negative .ensures),
+    )
 
 pub closed-step-at-spec : {M : Type 1} → statement M
 closed-step-at-spec =

@@ -3,6 +3,7 @@ use mathlib.Core.Path.{sym, ap, ap₂, _∙_}
 use mathlib.Core.List.{[], _∷_}
 use Rattle.cnf.specs.Cnf.{pos, neg}
 use Rattle.cnf.specs.declared.Literal.{Literal}
+use Rattle.formula.specs.Clause.Laws.{negative-is}
 use Rattle.formula.specs.Formula.OnRow.{first-at}
 use borrow.Author.Needs.{needs}
 use Rattle.row_clauses.proofs.on_row.first_step_at.Statement.{statement}
@@ -25,10 +26,12 @@ positive-requires c κs = search needs
 
 returns : tie.Need-returns
 returns c =
-    let e = c .before .before .before in
-    ap₂ (λ (x y : Literal). x ∷ y ∷ []) (c .before .before .negative .ensures ∙ ap neg (e .entered .ensures .0))
-    (c .positive .ensures ∙ ap pos (c .before .joined .ensures))
-    ∙ sym (first-at _ _ _ (e .before .pre .2))
+    let e = c .before .before .before in (
+      ap₂ (λ (x y : Literal). x ∷ y ∷ []) (c .before .before .negative .ensures ∙ ap neg (e .entered .ensures .0))
+          (c .positive .ensures ∙ ap pos (c .before .joined .ensures))
+          ∙ sym (first-at _ _ _ (e .before .pre .2)),
+      negative-is (c .before .before .negative .ensures),
+    )
 
 pub first-step-at-spec : {M : Type 1} → statement M
 first-step-at-spec =

@@ -6,6 +6,7 @@ use Rattle.cnf.specs.declared.Literal.{Literal}
 use Prim.Native.Nat.{ℕ}
 use Rattle.network.specs.Networks.{sink}
 use Rattle.formula.specs.Formula.{X}
+use Rattle.formula.specs.Clause.Laws.{negative-is}
 use Rattle.formula.specs.Formula.OnRow.{last-at}
 use borrow.Author.Needs.{needs}
 use Rattle.row_clauses.proofs.on_row.last_step_at.Statement.{statement}
@@ -38,10 +39,12 @@ positive-requires c κs = search needs
 returns : tie.Need-returns
 returns c =
     let o = c .before .before in
-    let e = o .before .before in
-    ap₂ (λ (x y : Literal). x ∷ y ∷ []) (o .before .negative .ensures ∙ ap neg (e .entered .ensures .0))
-    (c .positive .ensures ∙ ap pos (c .before .joined .ensures ∙ ap (λ (i : ℕ). X (e .before .args .r) i (sink (e .before .args .r))) (o .other-end .ensures .0)))
-    ∙ sym (last-at _ _ _ _ (e .before .pre .4))
+    let e = o .before .before in (
+      ap₂ (λ (x y : Literal). x ∷ y ∷ []) (o .before .negative .ensures ∙ ap neg (e .entered .ensures .0))
+          (c .positive .ensures ∙ ap pos (c .before .joined .ensures ∙ ap (λ (i : ℕ). X (e .before .args .r) i (sink (e .before .args .r))) (o .other-end .ensures .0)))
+          ∙ sym (last-at _ _ _ _ (e .before .pre .4)),
+      negative-is (o .before .negative .ensures),
+    )
 
 pub last-step-at-spec : {M : Type 1} → statement M
 last-step-at-spec =

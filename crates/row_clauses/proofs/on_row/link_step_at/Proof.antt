@@ -5,6 +5,7 @@ use Rattle.cnf.specs.Cnf.{pos, neg}
 use Rattle.cnf.specs.declared.Literal.{Literal}
 use Rattle.formula.specs.Formula.{X}
 use Rattle.prelude.specs.Blocks.Laws.{digits-low}
+use Rattle.formula.specs.Clause.Laws.{negative-is}
 use Rattle.formula.specs.Formula.OnRow.{square-most, link-follows, link-at}
 use mathlib.Core.Path.{sym, ap, ap₂, _∙_}
 use mathlib.Core.Logic.{inl, inr, ⊎-elim}
@@ -92,11 +93,13 @@ returns c =
     (⊎-elim (λ t. inl (t .0 .taken, t .1)) (λ t. inr (t .0 .left, t .1)) (c .before .before .before .before .before .before .if1 .came)) in
     let w = c .before .before in
     let u = w .before .before in
-    let g = c .before .before .before .before .before .before .if1 .g in
-    ap₂ (λ (x : Literal) (l : List Literal). x ∷ l) (u .negative .ensures ∙ ap neg (u .before .entered .ensures .0))
-    (ap₂ (λ (y z : Literal). y ∷ z ∷ []) (w .negative2 .ensures ∙ ap neg (w .before .entered2 .ensures .0))
-    (c .positive .ensures ∙ ap pos (c .before .joined .ensures ∙ ap (λ (i : ℕ). X (s .args .r) i g) (c .before .before .before .before .before .before .before .other-end .ensures .0))))
-    ∙ sym (link-at (s .args .r) (s .args .m) (s .args .before) (s .args .number) g (s .pre .3) f)
+    let g = c .before .before .before .before .before .before .if1 .g in (
+      ap₂ (λ (x : Literal) (l : List Literal). x ∷ l) (u .negative .ensures ∙ ap neg (u .before .entered .ensures .0))
+          (ap₂ (λ (y z : Literal). y ∷ z ∷ []) (w .negative2 .ensures ∙ ap neg (w .before .entered2 .ensures .0))
+          (c .positive .ensures ∙ ap pos (c .before .joined .ensures ∙ ap (λ (i : ℕ). X (s .args .r) i g) (c .before .before .before .before .before .before .before .other-end .ensures .0))))
+          ∙ sym (link-at (s .args .r) (s .args .m) (s .args .before) (s .args .number) g (s .pre .3) f),
+      negative-is (u .negative .ensures),
+    )
 
 pub link-step-at-spec : {M : Type 1} → statement M
 link-step-at-spec =

@@ -2,8 +2,8 @@
 use mathlib.Core.List.{[], _∷_}
 use Prim.Native.Nat.{ℕ, _+_, _*_}
 use Rattle.cnf.specs.Cnf.{pos}
-use Rattle.cnf.specs.declared.Literal.{Literal}
 use Rattle.formula.specs.Clause.{run}
+use Rattle.formula.specs.Clause.Laws.{run-one}
 use Rattle.formula.specs.Formula.OnRow.{clauses-some, row-most, some-at, row-none-at, row-some-at, row-closed-at, row-first-at, row-link-at, row-last-at}
 use mathlib.Core.Path.{sym, ap, _∙_}
 use native.Mathlib.Omega.{arith}
@@ -20,14 +20,13 @@ add-joined c = search needs
 joined-requires : tie.Need-joined-requires
 joined-requires c κs = search needs
 
-positive-requires : tie.Need-positive-requires
-positive-requires c κs = search needs
-
 returns : tie.Need-returns
 returns c =
-    let s = c .before .before .before in
-    ap (λ (x : Literal). x ∷ []) (c .positive .ensures ∙ ap pos (c .before .joined .ensures))
-    ∙ sym (row-none-at (s .args .n) (s .args .r) (s .args .m) (s .args .before) (s .args .k) (s .args .number) (c .before .before .if1 .taken) (s .pre .6))
+    let s = c .before .before in (
+      run-one _ ∙ ap (λ (x : ℕ). pos x ∷ []) (c .joined .ensures)
+          ∙ sym (row-none-at (s .args .n) (s .args .r) (s .args .m) (s .args .before) (s .args .k) (s .args .number) (c .before .if1 .taken) (s .pre .6)),
+      λ e. omega arith,
+    )
 
 add-entered : tie.Need-add-entered
 add-entered c = search needs
@@ -35,19 +34,21 @@ add-entered c = search needs
 entered-requires : tie.Need-entered-requires
 entered-requires c κs = search needs
 
-mul-t20 : tie.Need-mul-t20
-mul-t20 c = search needs
+mul-t19 : tie.Need-mul-t19
+mul-t19 c = search needs
 
-add-t21 : tie.Need-add-t21
-add-t21 c = search needs
+add-t20 : tie.Need-add-t20
+add-t20 c = search needs
 
 returns-2 : tie.Need-returns-2
 returns-2 c =
     let s = c .before .before .before in
-    let l = c .before .if2 .taken in
-    ap (λ (x : ℕ). run x (2 * s .args .r + 1)) (c .entered .ensures .0)
-    ∙ sym (row-some-at (s .args .n) (s .args .r) (s .args .m) (s .args .before) (s .args .k) (omega arith) (s .pre .1) (s .pre .5) (s .args .number) l
-    ∙ some-at (s .args .r) (s .args .m) (s .args .before) (s .args .number) l)
+    let l = c .before .if2 .taken in (
+      ap (λ (x : ℕ). run x (2 * s .args .r + 1)) (c .entered .ensures .0)
+          ∙ sym (row-some-at (s .args .n) (s .args .r) (s .args .m) (s .args .before) (s .args .k) (omega arith) (s .pre .1) (s .pre .5) (s .args .number) l
+          ∙ some-at (s .args .r) (s .args .m) (s .args .before) (s .args .number) l),
+      λ e. omega arith,
+    )
 
 mul-closed : tie.Need-mul-closed
 mul-closed c = search needs
@@ -63,9 +64,11 @@ closed-step-at-requires c κs = search needs
 
 returns-3 : tie.Need-returns-3
 returns-3 c =
-    let s = c .before .before .before .before in
-    c .closed-step-at .ensures
-    ∙ sym (row-closed-at (s .args .n) (s .args .r) (s .args .m) (s .args .before) (s .args .k) (omega arith) (s .pre .1) (s .pre .5) (s .args .number) (omega arith) (omega arith))
+    let s = c .before .before .before .before in (
+      c .closed-step-at .ensures .0
+          ∙ sym (row-closed-at (s .args .n) (s .args .r) (s .args .m) (s .args .before) (s .args .k) (omega arith) (s .pre .1) (s .pre .5) (s .args .number) (omega arith) (omega arith)),
+      c .closed-step-at .ensures .1,
+    )
 
 mul-first : tie.Need-mul-first
 mul-first c = search needs
@@ -78,9 +81,11 @@ first-step-at-requires c κs = search needs
 
 returns-4 : tie.Need-returns-4
 returns-4 c =
-    let s = c .before .before .before .before .before in
-    c .first-step-at .ensures
-    ∙ sym (row-first-at (s .args .n) (s .args .r) (s .args .m) (s .args .before) (s .args .k) (omega arith) (s .pre .1) (s .pre .5) (s .args .number) (omega arith) (omega arith) (omega arith))
+    let s = c .before .before .before .before .before in (
+      c .first-step-at .ensures .0
+          ∙ sym (row-first-at (s .args .n) (s .args .r) (s .args .m) (s .args .before) (s .args .k) (omega arith) (s .pre .1) (s .pre .5) (s .args .number) (omega arith) (omega arith) (omega arith)),
+      c .first-step-at .ensures .1,
+    )
 
 sub-links : tie.Need-sub-links
 sub-links c = search needs
@@ -102,9 +107,11 @@ link-step-at-requires c κs = search needs
 
 returns-5 : tie.Need-returns-5
 returns-5 c =
-    let s = c .before .before .before .before .before .before in
-    c .link-step-at .ensures
-    ∙ sym (row-link-at (s .args .n) (s .args .r) (s .args .m) (s .args .before) (s .args .k) (omega arith) (s .pre .1) (s .pre .5) (s .args .number) (omega arith) (omega arith) (omega arith) (omega arith))
+    let s = c .before .before .before .before .before .before in (
+      c .link-step-at .ensures .0
+          ∙ sym (row-link-at (s .args .n) (s .args .r) (s .args .m) (s .args .before) (s .args .k) (omega arith) (s .pre .1) (s .pre .5) (s .args .number) (omega arith) (omega arith) (omega arith) (omega arith)),
+      c .link-step-at .ensures .1,
+    )
 
 last-step-at-requires : tie.Need-last-step-at-requires
 last-step-at-requires c κs =
@@ -114,9 +121,11 @@ last-step-at-requires c κs =
 
 returns-6 : tie.Need-returns-6
 returns-6 c =
-    let s = c .before .before .before .before .before .before in
-    c .last-step-at .ensures
-    ∙ sym (row-last-at (s .args .n) (s .args .r) (s .args .m) (s .args .before) (s .args .k) (omega arith) (s .pre .1) (s .pre .5) (s .args .number) (omega arith) (omega arith) (omega arith) (omega arith))
+    let s = c .before .before .before .before .before .before in (
+      c .last-step-at .ensures .0
+          ∙ sym (row-last-at (s .args .n) (s .args .r) (s .args .m) (s .args .before) (s .args .k) (omega arith) (s .pre .1) (s .pre .5) (s .args .number) (omega arith) (omega arith) (omega arith) (omega arith)),
+      c .last-step-at .ensures .1,
+    )
 
 pub on-row-at-spec : {M : Type 1} → statement M
 on-row-at-spec =
@@ -125,12 +134,11 @@ on-row-at-spec =
     mul-joined
     add-joined
     joined-requires
-    positive-requires
     returns
     add-entered
     entered-requires
-    mul-t20
-    add-t21
+    mul-t19
+    add-t20
     returns-2
     mul-closed
     mul-closed-2
