@@ -1,5 +1,5 @@
 -- What the answer of writing the file means (document 01, demand 3). Assumes nothing.
-use mathlib.Core.Path.{_≡_, sym, _∙_}
+use mathlib.Core.Path.{_≡_}
 use mathlib.Core.Logic.{⊎-elim}
 use Prim.Native.Nat.{ℕ}
 use lib.ListN.{length}
@@ -10,8 +10,8 @@ use Rattle.request.specs.declared.Request.{Request}
 use Rattle.encoding.specs.Encoding.{FileMeans, encoding}
 use Rattle.size.specs.declared.Answer.{Answer}
 use Rattle.size.specs.declared.Answer.the-variants.{Bytes, Refused}
-use Rattle.size.specs.File.{numberOf, fileText, answerBy, writeNumber, writeAnswer}
-use Rattle.size.specs.File.Laws.{write-number, write-zero}
+use Rattle.size.specs.File.{fileText, answerBy, writeNumber, writeAnswer}
+use Rattle.size.specs.File.Laws.{write-zero}
 
 -- what a length says of the file besides: its formula is satisfiable exactly when some network of r switches does the job
 abbrev pub Meaning : Request → Answer → Type 0
@@ -29,5 +29,5 @@ unfolding writeAnswer
 answer-means q room x e = rw e (by-means q (writeNumber q room) (length (fileText q)) (write-zero q room))
 
 -- so does the number 0
-pub number-means : (q : Request) (room : ℕ) → numberOf (writeAnswer q room) ≡ 0 → FileMeans q
-number-means q room e = encoding q (write-zero q room (sym (write-number q room) ∙ e))
+pub number-means : (q : Request) (room : ℕ) → writeNumber q room ≡ 0 → FileMeans q
+number-means q room e = encoding q (write-zero q room e)

@@ -1,7 +1,7 @@
 -- The least number of switches: where no network of c switches does the job, each that does has more, whatever its size; and so
--- where the clauses for r switches cannot be satisfied. Assumes nothing.
+-- where the clauses for r switches cannot be satisfied. Where k is least, those for r can exactly when r is k or more. Assumes nothing.
 use mathlib.Core.Path.{_≡_}
-use mathlib.Core.Logic.{⊎-elim}
+use mathlib.Core.Logic.{⊎-elim, _↔_}
 use Prim.Native.Nat.{ℕ, zero, suc, _+_, _-_, _≤_, _<_}
 use native.Mathlib.Omega.{arith}
 use Rattle.prelude.specs.Tests.{le?}
@@ -9,7 +9,11 @@ use Rattle.cnf.specs.Cnf.{Satisfiable}
 use Rattle.request.specs.declared.Request.{Request}
 use Rattle.request.specs.Numbers.{refusalOf}
 use Rattle.request.specs.Numbers.Laws.{refusal-good}
+use Rattle.network.specs.declared.Network.{Network}
 use Rattle.network.specs.Networks.{Net, switches, Formed, Does}
+use Rattle.network.specs.Value.{listed}
+use Rattle.network.specs.Least.{LeastFor, MoreThan}
+use Rattle.network.specs.Least.Laws.{least-switches}
 use Rattle.formula.specs.Formula.{formulaOf}
 use Rattle.encoding.specs.Grow.{one-more}
 use Rattle.encoding.specs.Encoding.{encoding}
@@ -35,7 +39,22 @@ least q inputs c none v form does =
     (le? (switches v) c)
 
 -- where a request's clauses cannot be satisfied, a network that does its job has more than r switches
-pub unsat-least : (q : Request) → refusalOf q ≡ 0 → (Satisfiable (formulaOf q) → ⊥)
-    → (v : Net) → Formed q v → Does q v → q .r < switches v
+pub unsat-least : (q : Request) → refusalOf q ≡ 0 → (Satisfiable (formulaOf q) → ⊥) → MoreThan q
 unsat-least q good none =
     least q (refusal-good q good .n-low) (q .r) (λ w size form does. none (encoding q good .1 (w, size, form, does)))
+
+-- the request for another number of switches
+abbrev pub withSwitches : Request → ℕ → Request
+withSwitches q r = record { n = q .n; table = q .table; r = r; m = q .m }
+
+-- where a network is least, with k switches, the clauses for r switches are satisfiable exactly when r is k or more
+pub least-satisfiable : (q : Request) (w : Network) → LeastFor q w → (r : ℕ) → refusalOf (withSwitches q r) ≡ 0
+    → Satisfiable (formulaOf (withSwitches q r)) ↔ (q .r ≤ r)
+least-satisfiable q w l r good =
+    let m = encoding (withSwitches q r) good in (
+      λ s. let v = m .0 s in let h = l .least (v .0) (v .2) (v .3) in omega (arith, v .1),
+      λ h.
+          let k = least-switches q w l in
+          let v = more q (refusal-good (withSwitches q r) good .n-low) (r - q .r) (listed (q .r) w) (l .form) (l .does) in
+          m .1 (v .0, (let e = v .1 in omega arith), v .2, v .3),
+    )

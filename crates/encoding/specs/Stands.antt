@@ -11,7 +11,7 @@ use Rattle.prelude.specs.Blocks.{for}
 use Rattle.cnf.specs.Cnf.{neg, Formula, Assignment, Sat}
 use Rattle.request.specs.declared.Request.{Request}
 use Rattle.network.specs.Networks.{Net, literalAt, labelAt}
-use Rattle.network.specs.Check.{listed}
+use Rattle.network.specs.Value.{listed}
 use Rattle.formula.specs.Formula.{terminals, X, L, triple, transitivity, choice, choices}
 use Rattle.answer.specs.Decode.{decoded}
 use Rattle.answer.specs.Decode.Meaning.{decoded-formed}

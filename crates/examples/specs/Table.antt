@@ -12,10 +12,10 @@ use Rattle.request.specs.Numbers.{refusalOf}
 use Rattle.rows.specs.Rows.{onBelow, rowsOf, literalOn}
 use Rattle.request.specs.Line.{numberOf, valuesOf as readingValues, requestOf, requestNumber, lineForm, numbersRefusal, runEnd, digits, endedBy, single, isTable, tableAt}
 use Rattle.network.specs.declared.Network.{Network}
-use Rattle.network.specs.Check.{numberOf as checkNumber, valuesOf, checkedOf, rowsAnswer, firstWrong, fitting, literalsLow, labelsLowest, listed, near, nearer, touching, atSink, apart, part}
+use Rattle.network.specs.Check.{numberOf as checkNumber, valuesOf, checkedOf, rowsAnswer, firstWrong, fitting, literalsLow, labelsLowest, near, nearer, touching, atSink, apart, part}
+use Rattle.network.specs.Value.{listed}
 use Rattle.formula.specs.Formula.{pairNumber, X, P, L, W, S, transitivity, choice, choices, someStep, closedStep, firstStep, linkStep, lastStep, onRow, netSides, switchSides, offRow, rowVariables, rowClauses, rowsFrom, formula, formulaOf}
-use Rattle.formula.specs.Count.{split, variablesBefore, variableCount, clausesBefore, clauseCount, literalsBefore, literalCount}
-use Rattle.formula.specs.Formula.OnRow.{onRowCount, onRowLiterals}
+use Rattle.formula.specs.Count.{onRowCount, onRowLiterals, split, variablesBefore, variableCount, clausesBefore, clauseCount, literalsBefore, literalCount}
 use Rattle.formula.specs.Pairs.{pairsBefore, triplesBefore}
 use Rattle.formula.specs.Number.{clauseOf}
 use Rattle.numeral.specs.Number.{digitsAt, numberAt, literalAt as wordAt}
@@ -27,8 +27,9 @@ use Rattle.lrat.specs.Words.{wordsFrom, wordsAt, literalsAt, idsAt, runFrom, ru
 use Rattle.lrat.specs.State.{standsIn, clauseAt, hintsOf, without, deleteAll}
 use Rattle.lrat.specs.Check.{concluded, addStep, deleteStep, stepOf, lineStep as checkStep, linesFrom as checkFrom, linesOf}
 use Rattle.store.specs.Store.{storeRefusal}
-use Rattle.refutation.specs.Refutation.{Lent, lent, outcomeNumber, refusalBefore, outcomeOf, linesFor, checkAnswer}
-use Rattle.settle.specs.Settle.{verdictBelow, settlement}
+use Rattle.lrat.specs.Outcome.{numberOf as resultNumber, valuesOf as resultValues, outcomeOf}
+use Rattle.refutation.specs.Refutation.{Lent, lent, refusalBefore, linesFor, checkAnswer}
+use Rattle.settle.specs.Settle.{verdictNumber, verdictValues, verdictBelow, settlement}
 use Rattle.reports.specs.Reports.{numberText, switchText, shownSwitches, sinkText, networkText, refusedText, failsText, worksText, leastText}
 use Rattle.reporting.specs.Report.{reportText}
 use Rattle.text.specs.Decimal.{digits as numeral, decimal}
@@ -116,7 +117,7 @@ slices = lent (replicate 20 (Z.pos 0)) (replicate 20 0) (replicate 4 0) (replica
 
 -- the number of checking a refutation of it, and the number of added pairs
 refuted : List ℕ → List ℕ
-refuted t = outcomeNumber (checkAnswer noSwitch t slices .outcome) ∷ checkAnswer noSwitch t slices .count ∷ []
+refuted t = resultNumber (checkAnswer noSwitch t slices) ∷ resultValues (checkAnswer noSwitch t slices)
 
 -- a refutation of it
 noRefutation : List ℕ
@@ -127,6 +128,20 @@ noRefutation =
 -- the report for "1 01 1 1", its answer and that refutation
 oneReport : List ℕ
 oneReport = reportText (49 ∷ 32 ∷ 48 ∷ 49 ∷ 32 ∷ 49 ∷ 32 ∷ 49 ∷ 10 ∷ []) oneAnswer noRefutation slices
+
+-- what settling them says: its number, then its values
+oneSettled : List ℕ
+oneSettled =
+    verdictNumber (settlement oneSwitch oneAnswer noRefutation slices .verdict)
+    ∷ verdictValues 1 (settlement oneSwitch oneAnswer noRefutation slices .verdict)
+
+-- the report for "1 11 0 1", whose r is not its M, with the answer "s SATISFIABLE", "v 1 0"
+noneReport : List ℕ
+noneReport =
+    reportText (49 ∷ 32 ∷ 49 ∷ 49 ∷ 32 ∷ 48 ∷ 32 ∷ 49 ∷ 10 ∷ [])
+    (115 ∷ 32 ∷ 83 ∷ 65 ∷ 84 ∷ 73 ∷ 83 ∷ 70 ∷ 73 ∷ 65 ∷ 66 ∷ 76 ∷ 69 ∷ 10 ∷ 118 ∷ 32 ∷ 49 ∷ 32 ∷ 48 ∷ 10 ∷ [])
+    []
+    slices
 
 -- r = M = 7, n = 4, all on
 largest : Request
@@ -157,6 +172,13 @@ rows =
           ∷ 48 ∷ 32 ∷ 48 ∷ 32 ∷ 48 ∷ 32 ∷ 50 ∷ 10
           ∷ 115 ∷ 105 ∷ 110 ∷ 107 ∷ 32 ∷ 50 ∷ 10 ∷ [];
     }
+    -- which settling says in numbers: nothing is refused, least, k = 1
+    ∷ record { computed = oneSettled; stated = 0 ∷ 0 ∷ 1 ∷ [] }
+    -- an example of ours with r = 0 and M = 1: "least 0", "sink 0"
+    ∷ record {
+      computed = noneReport;
+      stated = 108 ∷ 101 ∷ 97 ∷ 115 ∷ 116 ∷ 32 ∷ 48 ∷ 10 ∷ 115 ∷ 105 ∷ 110 ∷ 107 ∷ 32 ∷ 48 ∷ 10 ∷ [];
+    }
     -- P9: "does"
     ∷ record { computed = exclusive 2; stated = 0 ∷ [] }
     -- P10: row 1
@@ -179,7 +201,7 @@ rows =
 
 -- each row's computed numbers are those stated
 pub holds : map (λ (x : Row). x .computed) rows ≡ map (λ (x : Row). x .stated) rows
-unfolding rows noSwitch slices refuted noRefutation oneReport verdictBelow settlement numberText switchText shownSwitches sinkText networkText refusedText failsText worksText leastText reportText
+unfolding rows noSwitch slices refuted noRefutation oneReport oneSettled noneReport verdictBelow settlement numberText switchText shownSwitches sinkText networkText refusedText failsText worksText leastText reportText
     wordsFrom wordsAt literalsAt idsAt runFrom runAt deletionAt hintsAfter additionAt lineAfter lineAt standsIn clauseAt hintsOf without deleteAll
     concluded addStep deleteStep stepOf checkStep checkFrom linesOf storeRefusal refusalBefore outcomeOf linesFor checkAnswer clauseCount literalCount clausesBefore literalsBefore
     onRowCount onRowLiterals pairsBefore triplesBefore

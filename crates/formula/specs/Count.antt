@@ -8,10 +8,25 @@ use Rattle.request.specs.Numbers.{refusalOf}
 use Rattle.request.specs.declared.Request.{Request}
 use Rattle.formula.specs.declared.Sizes.{Sizes}
 use Rattle.formula.specs.Formula.{P, terminals}
-use Rattle.formula.specs.Formula.OnRow.{onRowCount, onRowLiterals}
-use Rattle.formula.specs.Formula.OffRow.{offRowCount, offRowLiterals}
 use Rattle.formula.specs.Pairs.{pairsBefore, triplesBefore}
 pub mod Laws
+
+-- the clauses of an on row
+unfoldable pub onRowCount : ℕ → ℕ → ℕ → ℕ
+onRowCount n r m = cond (eqb m 0) 1 (m + m * (2 * r * n) + (2 * r + 1) + (m - 1) * (2 * r * (2 * r)) + 2 * r)
+
+-- the literals of an on row
+unfoldable pub onRowLiterals : ℕ → ℕ → ℕ → ℕ
+onRowLiterals n r m =
+    cond (eqb m 0) 1 (m * (2 * r + 1) + 2 * (m * (2 * r * n)) + 2 * (2 * r + 1) + 3 * ((m - 1) * (2 * r * (2 * r))) + 2 * (2 * r))
+
+-- the clauses of an off row
+abbrev pub offRowCount : ℕ → ℕ → ℕ
+offRowCount n r = 2 + 2 * pairsBefore (2 * r + 2) (2 * r + 2) + r * (n * 2)
+
+-- the literals of an off row
+abbrev pub offRowLiterals : ℕ → ℕ → ℕ
+offRowLiterals n r = 2 + 3 * (2 * pairsBefore (2 * r + 2) (2 * r + 2) + r * (n * 2))
 
 -- a for each on row below row k, b for each off row
 unfoldable pub split : ℕ → ℕ → ℕ → ℕ → ℕ

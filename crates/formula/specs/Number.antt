@@ -10,9 +10,7 @@ use Rattle.rows.specs.Rows.{bit}
 use Rattle.request.specs.Numbers.{refusalOf}
 use Rattle.request.specs.declared.Request.{Request}
 use Rattle.formula.specs.Formula.{formulaOf}
-use Rattle.formula.specs.Formula.OnRow.{onRowCount}
-use Rattle.formula.specs.Formula.OffRow.{offRowCount}
-use Rattle.formula.specs.Count.{clausesBefore}
+use Rattle.formula.specs.Count.{onRowCount, offRowCount, clausesBefore}
 pub mod Laws
 
 -- clause k of a request, from 0; none past the last, and none where the request is refused

@@ -7,8 +7,7 @@ use lib.ListN.{getD}
 use Rattle.cnf.specs.Cnf.{Clause, Formula}
 use Rattle.rows.specs.Rows.{literalOn}
 use Rattle.formula.specs.Formula.{onRow, offRow}
-use Rattle.formula.specs.Formula.OnRow.{onRowCount, onRowLiterals}
-use Rattle.formula.specs.Formula.OffRow.{offRowCount, offRowLiterals}
+use Rattle.formula.specs.Count.{onRowCount, onRowLiterals, offRowCount, offRowLiterals}
 pub mod Laws
 
 -- a request may have n inputs, r switches and the series bound m

@@ -1,24 +1,32 @@
--- The numbers of an entry as a request, and what stands behind an out-parameter afterwards. Assumes nothing.
+-- An operation's number and values as an entry for a host hands them over. Assumes nothing.
+use mathlib.Core.Bool.{cond}
+use mathlib.Core.List.{List, [], _∷_}
 use Prim.Native.Nat.{ℕ}
+use lib.Dec.{eqb}
+use lib.ListN.{length, getD}
+use Rattle.prelude.specs.Blocks.{flatten}
 use Rattle.request.specs.declared.Request.{Request}
-use Rattle.size.specs.declared.Answer.{Answer}
-use Rattle.size.specs.declared.Answer.the-variants.{Bytes, Refused}
-use Rattle.settle.specs.declared.Verdict.{Verdict}
-use Rattle.settle.specs.declared.Verdict.the-variants.{Least, Works, Fails, Refused as settleRefused}
+use Rattle.request.specs.Numbers.{refusalOf}
+use Rattle.formula.specs.Formula.{formulaOf}
+use Rattle.formula.specs.Count.{variableCount}
 pub mod Laws
 
--- the request that an entry's numbers make
-abbrev pub asked : ℕ → ℕ → ℕ → ℕ → Request
-asked n table r m = record { n = n; table = table; r = r; m = m }
+-- "V is the number of variables, C of clauses, T of literals in all clauses", of a request that is taken
+unfoldable pub sizeNumbers : Request → List ℕ
+sizeNumbers q = cond (eqb (refusalOf q) 0) (variableCount q ∷ length (formulaOf q) ∷ length (flatten (formulaOf q)) ∷ []) []
 
--- the length of the file, or what stood there
-abbrev pub bytesOr : ℕ → Answer → ℕ
-bytesOr old (Bytes k) = k
-bytesOr old (Refused x) = old
+-- what checking a network answers a host: 0 where it does the job, 1 where a row is wrong, 2 for a refusal
+abbrev pub checkCode : ℕ → List ℕ → ℕ
+checkCode number values = cond (eqb number 0) (length values) 2
 
--- the number of a verdict for the host
-abbrev pub verdictCode : Verdict → ℕ
-verdictCode Least = 0
-verdictCode (Works x) = 1
-verdictCode (Fails row) = 2
-verdictCode (settleRefused x) = 3
+-- and what stands beside it: the row, else the number
+abbrev pub checkDetail : ℕ → List ℕ → ℕ
+checkDetail number values = getD values 0 number
+
+-- what settling answers a host: which of the four verdicts it is
+abbrev pub verdictCode : List ℕ → ℕ
+verdictCode values = getD values 0 0
+
+-- and what stands beside it: the refutation's number or the row, which come after k, else the number
+abbrev pub verdictDetail : ℕ → List ℕ → ℕ
+verdictDetail number values = getD values 2 number

@@ -1,27 +1,118 @@
-// The entries that a host in C or C++ calls: numbers and slices in, a number out, 0 for "taken", "none" or "least". A slice passes as
-// a pointer and a length, an array as a pointer. On a refusal the number behind size or length stands; count, number and network are
-// always written.
-use refutation::Outcome;
+// The entries that a host in C or C++ calls: numbers and slices in, a number out, 0 for "taken", "none", "does" or "least". A slice passes
+// as a pointer and a length, an array as a pointer. On a refusal what stands behind n, table, r, m, variables, clauses, literals and size
+// stays; count, number and network are always written.
+use lrat::Outcome;
+use network::Checked;
+use request::Reading;
 use request::Request;
 use settle::Verdict;
 use size::Answer;
 ghost use mathlib.Core.Path.{_≡_};
-ghost use lib.ListN.{length};
-ghost use Rattle.size.specs.File.{numberOf, sizeAnswer, writeAnswer, fileWritten};
+ghost use mathlib.Core.List.{[], _∷_};
+ghost use lib.ListN.{length, getD};
+ghost use Rattle.request.specs.Numbers.{refusalOf};
+ghost use Rattle.request.specs.Line.{asked, requestNumber, requestValues};
+ghost use Rattle.network.specs.Check.{checkedNumber, checkedValues};
+ghost use Rattle.network.specs.Least.{LeastFor, MoreThan};
+ghost use Rattle.size.specs.File.{sizeValues, writeNumber, writeValues, fileWritten};
 ghost use Rattle.answer.specs.Reading.{readingOf};
 ghost use Rattle.encoding.specs.Encoding.{FileMeans};
 ghost use Rattle.cnf.specs.Cnf.{Satisfiable};
 ghost use Rattle.formula.specs.Formula.{formulaOf};
-ghost use Rattle.refutation.specs.Refutation.{lent, outcomeNumber, checkAnswer, checkLeaves};
-ghost use Rattle.settle.specs.Settle.{verdictNumber, settlement, settleLeaves, LeastFor};
-ghost use Rattle.network_bytes.specs.Bytes.{networkBytes};
-ghost use Rattle.host.specs.Entries.{asked, bytesOr, verdictCode};
+ghost use Rattle.refutation.specs.Refutation.{lent, checkNumber, checkValues, checkLeaves};
+ghost use Rattle.settle.specs.Settle.{verdictNumber, verdictValues, settleNumber, settleValues, settlement, settleLeaves};
+ghost use Rattle.network_bytes.specs.Bytes.{networkBytes, networkOf};
+ghost use Rattle.host.specs.Entries.{sizeNumbers, checkCode, checkDetail, verdictCode, verdictDetail};
+
+// Reads the line of a request: 0 and its four numbers, or the refusal.
+#[no_mangle]
+pub extern "C" fn nk_read_request(
+    text: &[u8],
+    n: &mut u8,
+    table: &mut u16,
+    r: &mut u8,
+    m: &mut u8,
+) -> u32
+    ensures refusal { λ x. ⌜ x ≡ requestNumber (now (text .entry)) ⌝ }
+    ensures n { λ _. ⌜ now (n .exit) ≡ getD (requestValues (now (text .entry))) 0 (now (n .entry)) ⌝ }
+    ensures table { λ _. ⌜ now (table .exit) ≡ getD (requestValues (now (text .entry))) 1 (now (table .entry)) ⌝ }
+    ensures r { λ _. ⌜ now (r .exit) ≡ getD (requestValues (now (text .entry))) 2 (now (r .entry)) ⌝ }
+    ensures m { λ _. ⌜ now (m .exit) ≡ getD (requestValues (now (text .entry))) 3 (now (m .entry)) ⌝ }
+{
+    match request_line::read_request(text) {
+        Reading::Taken(q) => {
+            *n = q.n;
+            *table = q.table;
+            *r = q.r;
+            *m = q.m;
+            0
+        }
+        Reading::Refused(number) => number as u32,
+    }
+}
+
+// V, C and T of a request's clauses.
+#[no_mangle]
+pub extern "C" fn nk_sizes(
+    n: u8,
+    table: u16,
+    r: u8,
+    m: u8,
+    variables: &mut u32,
+    clauses: &mut u32,
+    literals: &mut u32,
+) -> u32
+    ensures refusal { λ x. ⌜ x ≡ refusalOf (asked n table r m) ⌝ }
+    ensures variables { λ _. ⌜ now (variables .exit) ≡ getD (sizeNumbers (asked n table r m)) 0 (now (variables .entry)) ⌝ }
+    ensures clauses { λ _. ⌜ now (clauses .exit) ≡ getD (sizeNumbers (asked n table r m)) 1 (now (clauses .entry)) ⌝ }
+    ensures literals { λ _. ⌜ now (literals .exit) ≡ getD (sizeNumbers (asked n table r m)) 2 (now (literals .entry)) ⌝ }
+{
+    let sizes = clauses::count::count(Request { n, table, r, m });
+    if sizes.refusal != 0 {
+        return sizes.refusal as u32;
+    }
+    *variables = sizes.variables;
+    *clauses = sizes.clauses;
+    *literals = sizes.literals;
+    0
+}
+
+// Checks a network, as the 24 bytes that nk_settle writes, against a request: 0 does, 1 wrong, 2 refused; the lowest wrong row or the
+// refusal goes behind number, else 0.
+#[no_mangle]
+pub extern "C" fn nk_check_network(
+    n: u8,
+    table: u16,
+    r: u8,
+    m: u8,
+    network: &[u8; 24],
+    number: &mut u32,
+) -> u32
+    ensures answer { λ x. ⌜ x ≡ checkCode (checkedNumber (asked n table r m) (networkOf (now (network .entry)))) (checkedValues (asked n table r m) (networkOf (now (network .entry)))) ⌝ }
+    ensures number { λ _. ⌜ now (number .exit) ≡ checkDetail (checkedNumber (asked n table r m) (networkOf (now (network .entry)))) (checkedValues (asked n table r m) (networkOf (now (network .entry)))) ⌝ }
+{
+    let w = network_bytes::network_of(*network);
+    match network_check::check_network(Request { n, table, r, m }, w) {
+        Checked::Does => {
+            *number = 0;
+            0
+        }
+        Checked::Wrong(row) => {
+            *number = row as u32;
+            1
+        }
+        Checked::Refused(refusal) => {
+            *number = refusal as u32;
+            2
+        }
+    }
+}
 
 // The size of a request's clause file.
 #[no_mangle]
 pub extern "C" fn nk_file_size(n: u8, table: u16, r: u8, m: u8, size: &mut u64) -> u32
-    ensures refusal { λ x. ⌜ x ≡ numberOf (sizeAnswer (asked n table r m)) ⌝ }
-    ensures size { λ _. ⌜ now (size .exit) ≡ bytesOr (now (size .entry)) (sizeAnswer (asked n table r m)) ⌝ }
+    ensures refusal { λ x. ⌜ x ≡ refusalOf (asked n table r m) ⌝ }
+    ensures size { λ _. ⌜ now (size .exit) ≡ getD (sizeValues (asked n table r m)) 0 (now (size .entry)) ⌝ }
 {
     match size::file_size(Request { n, table, r, m }) {
         Answer::Bytes(k) => {
@@ -40,16 +131,16 @@ pub extern "C" fn nk_write_file(
     r: u8,
     m: u8,
     buffer: &mut [u8],
-    length: &mut u64,
+    size: &mut u64,
 ) -> u32
-    ensures refusal { λ x. ⌜ x ≡ numberOf (writeAnswer (asked n table r m) (lib.ListN.length (now (buffer .entry)))) ⌝ }
+    ensures refusal { λ x. ⌜ x ≡ writeNumber (asked n table r m) (length (now (buffer .entry))) ⌝ }
     ensures bytes { λ _. ⌜ now (buffer .exit) ≡ fileWritten (asked n table r m) (now (buffer .entry)) ⌝ }
-    ensures count { λ _. ⌜ now (length .exit) ≡ bytesOr (now (length .entry)) (writeAnswer (asked n table r m) (lib.ListN.length (now (buffer .entry)))) ⌝ }
+    ensures size { λ _. ⌜ now (size .exit) ≡ getD (writeValues (asked n table r m) (length (now (buffer .entry)))) 0 (now (size .entry)) ⌝ }
     ensures meaning { λ x. ⌜ (x ≡ 0 → FileMeans (asked n table r m)) ⌝ }
 {
     match dimacs::write_file(Request { n, table, r, m }, buffer) {
         Answer::Bytes(count) => {
-            *length = count as u64;
+            *size = count as u64;
             0
         }
         Answer::Refused(number) => number as u32,
@@ -80,10 +171,11 @@ pub extern "C" fn nk_check_refutation(
     values: &mut [u8],
     count: &mut u32,
 ) -> u32
-    ensures number { λ x. ⌜ x ≡ outcomeNumber (checkAnswer (asked n table r m) (now (text .entry)) (lent (now (literals .entry)) (now (pairs .entry)) (now (added .entry)) (now (values .entry))) .outcome) ⌝ }
-    ensures count { λ _. ⌜ now (count .exit) ≡ checkAnswer (asked n table r m) (now (text .entry)) (lent (now (literals .entry)) (now (pairs .entry)) (now (added .entry)) (now (values .entry))) .count ⌝ }
+    ensures number { λ x. ⌜ x ≡ checkNumber (asked n table r m) (now (text .entry)) (lent (now (literals .entry)) (now (pairs .entry)) (now (added .entry)) (now (values .entry))) ⌝ }
+    ensures count { λ _. ⌜ now (count .exit) ∷ [] ≡ checkValues (asked n table r m) (now (text .entry)) (lent (now (literals .entry)) (now (pairs .entry)) (now (added .entry)) (now (values .entry))) ⌝ }
     ensures slices { λ _. ⌜ lent (now (literals .exit)) (now (pairs .exit)) (now (added .exit)) (now (values .exit)) ≡ checkLeaves (asked n table r m) (now (text .entry)) (lent (now (literals .entry)) (now (pairs .entry)) (now (added .entry)) (now (values .entry))) ⌝ }
     ensures sound { λ x. ⌜ (x ≡ 0 → Satisfiable (formulaOf (asked n table r m)) → ⊥) ⌝ }
+    ensures more { λ x. ⌜ (x ≡ 0 → MoreThan (asked n table r m)) ⌝ }
 {
     let checked = refutation::check(
         Request { n, table, r, m },
@@ -102,8 +194,8 @@ pub extern "C" fn nk_check_refutation(
 }
 
 // The number of a verdict for the host: 0 least, 1 works, 2 fails, 3 refused.
-fn verdict_code(verdict: Verdict) -> u32
-    ensures { λ x. ⌜ x ≡ verdictCode verdict ⌝ }
+fn verdict_code(k: u8, verdict: Verdict) -> u32
+    ensures { λ x. ⌜ x ≡ verdictCode (verdictValues k verdict) ⌝ }
 {
     match verdict {
         Verdict::Least => 0,
@@ -114,8 +206,8 @@ fn verdict_code(verdict: Verdict) -> u32
 }
 
 // The number that goes with a verdict: the refutation's, the row or the refusal; 0 with "least".
-fn verdict_number(verdict: Verdict) -> u32
-    ensures { λ x. ⌜ x ≡ verdictNumber verdict ⌝ }
+fn verdict_detail(k: u8, verdict: Verdict) -> u32
+    ensures { λ x. ⌜ x ≡ verdictDetail (verdictNumber verdict) (verdictValues k verdict) ⌝ }
 {
     match verdict {
         Verdict::Least => 0,
@@ -142,8 +234,8 @@ pub extern "C" fn nk_settle(
     network: &mut [u8; 24],
     number: &mut u32,
 ) -> u32
-    ensures verdict { λ x. ⌜ x ≡ verdictCode (settlement (asked n table k m) (now (answer .entry)) (now (refutation .entry)) (lent (now (literals .entry)) (now (pairs .entry)) (now (added .entry)) (now (values .entry))) .verdict) ⌝ }
-    ensures number { λ _. ⌜ now (number .exit) ≡ verdictNumber (settlement (asked n table k m) (now (answer .entry)) (now (refutation .entry)) (lent (now (literals .entry)) (now (pairs .entry)) (now (added .entry)) (now (values .entry))) .verdict) ⌝ }
+    ensures verdict { λ x. ⌜ x ≡ verdictCode (settleValues (asked n table k m) (now (answer .entry)) (now (refutation .entry)) (lent (now (literals .entry)) (now (pairs .entry)) (now (added .entry)) (now (values .entry)))) ⌝ }
+    ensures number { λ _. ⌜ now (number .exit) ≡ verdictDetail (settleNumber (asked n table k m) (now (answer .entry))) (settleValues (asked n table k m) (now (answer .entry)) (now (refutation .entry)) (lent (now (literals .entry)) (now (pairs .entry)) (now (added .entry)) (now (values .entry)))) ⌝ }
     ensures network { λ _. ⌜ now (network .exit) ≡ networkBytes (settlement (asked n table k m) (now (answer .entry)) (now (refutation .entry)) (lent (now (literals .entry)) (now (pairs .entry)) (now (added .entry)) (now (values .entry))) .network) ⌝ }
     ensures slices { λ _. ⌜ lent (now (literals .exit)) (now (pairs .exit)) (now (added .exit)) (now (values .exit)) ≡ settleLeaves (asked n table k m) (now (answer .entry)) (now (refutation .entry)) (lent (now (literals .entry)) (now (pairs .entry)) (now (added .entry)) (now (values .entry))) ⌝ }
     ensures least { λ x. ⌜ (x ≡ 0 → LeastFor (asked n table k m) (settlement (asked n table k m) (now (answer .entry)) (now (refutation .entry)) (lent (now (literals .entry)) (now (pairs .entry)) (now (added .entry)) (now (values .entry))) .network)) ⌝ }
@@ -160,6 +252,6 @@ pub extern "C" fn nk_settle(
     let w = settled.network;
     *network = network_bytes::network_bytes(w);
     let verdict = settled.verdict;
-    *number = verdict_number(verdict);
-    verdict_code(verdict)
+    *number = verdict_detail(k, verdict);
+    verdict_code(k, verdict)
 }

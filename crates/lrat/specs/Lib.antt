@@ -4,3 +4,4 @@ pub mod Words
 pub mod Bytes
 pub mod State
 pub mod Check
+pub mod Outcome

@@ -1,4 +1,4 @@
-// The rules of a refutation's lines (document 01, "Checking a refutation"), over any clauses: in specs/. Its code is one type.
+// The rules of a refutation's lines (document 01, "Checking a refutation"), over any clauses: in specs/. Its code is the types below.
 
 // What the literals of a clause are under the values: all false; all false but one, which is unset, with its variable and 1 for a
 // minus; or anything else.
@@ -28,4 +28,16 @@ pub struct Step {
     pub code: u8,
     pub a: usize,
     pub next: usize,
+}
+
+// What a check ends in: "none", or document 01's number of the refusal.
+pub enum Outcome {
+    None,
+    Refused(u8),
+}
+
+// The outcome, and the number of added pairs.
+pub struct Checked {
+    pub outcome: Outcome,
+    pub count: u32,
 }

@@ -3,16 +3,18 @@ use mathlib.Core.Bool.{Bool, true, false, not, _&&_, _||_, cond}
 use mathlib.Core.List.{List, [], _∷_}
 use Prim.Native.Nat.{ℕ, zero, suc, _+_, _*_, _^_}
 use lib.Dec.{eqb, leb, ltb}
-use lib.ListN.{getD, take}
+use lib.ListN.{getD}
 use Rattle.prelude.specs.Lists.{anyFrom, allFrom, firstOf}
 use Rattle.request.specs.Numbers.{refusalOf}
 use Rattle.rows.specs.Rows.{Row, rowsOf}
 use Rattle.request.specs.declared.Request.{Request}
 use Rattle.network.specs.Networks.{Net, source, sink, switchOf, other, closedOn, labelAt}
+use Rattle.network.specs.Value.{listed}
 use Rattle.network.specs.declared.Network.{Network}
 use Rattle.network.specs.declared.Checked.{Checked}
 use Rattle.network.specs.declared.Checked.the-variants.{Does, Wrong, Refused}
 pub mod Laws
+pub mod Numbers
 
 -- document 01's number of an answer, 0 where it is not a refusal
 abbrev pub numberOf : Checked → ℕ
@@ -87,10 +89,6 @@ literalsLow n r literal = allFrom 0 r (λ s. ltb (literal s) (2 * n))
 unfoldable pub labelsLowest : ℕ → (ℕ → ℕ) → Bool
 labelsLowest r label = allFrom 0 (2 * r + 2) (λ i. leb (label i) i && eqb (label (label i)) (label i))
 
--- the first r literals and 2r + 2 labels of a network: "entries past r literals and N labels are unread"
-unfoldable pub listed : ℕ → Network → Net
-listed r w = record { literals = take r (w .literals); labels = take (2 * r + 2) (w .labels) }
-
 -- "13 if its r isn't the request's, or a literal or a label breaks the form"
 unfoldable pub fitting : Request → Network → Bool
 fitting q w =
@@ -104,6 +102,15 @@ firstWrong q w = firstOf (λ row. not (rowRight (q .r) (q .m) (listed (q .r) w) 
 unfoldable pub rowsAnswer : Request → Network → Checked
 rowsAnswer q w = cond (ltb (firstWrong q w) (2 ^ (q .n))) (Wrong (firstWrong q w)) Does
 
--- checking a network: 2 to 5, 13, then the rows
+-- checking a network in document 01's numbers: 2 to 5, then 13; 0 where neither applies
+unfoldable pub checkedNumber : Request → Network → ℕ
+checkedNumber q w = cond (eqb (refusalOf q) 0) (cond (fitting q w) 0 13) (refusalOf q)
+
+-- and values: the lowest wrong row, where there is one and nothing is refused
+unfoldable pub checkedValues : Request → Network → List ℕ
+checkedValues q w =
+    cond (eqb (refusalOf q) 0) (cond (fitting q w) (cond (ltb (firstWrong q w) (2 ^ (q .n))) (firstWrong q w ∷ []) []) []) []
+
+-- the same as an answer of the program
 unfoldable pub checkedOf : Request → Network → Checked
 checkedOf q w = cond (eqb (refusalOf q) 0) (cond (fitting q w) (rowsAnswer q w) (Refused 13)) (Refused (refusalOf q))

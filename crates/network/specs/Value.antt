@@ -1,10 +1,16 @@
 -- Networks as values. Assumes nothing.
 use mathlib.Core.Bool.{Bool, _&&_}
+use Prim.Native.Nat.{ℕ, _+_, _*_}
 use lib.Dec.{eqb}
-use lib.ListN.{replicate}
+use lib.ListN.{replicate, take}
 use Rattle.prelude.specs.Lists.{equalLists}
+use Rattle.network.specs.Networks.{Net}
 use Rattle.network.specs.declared.Network.{Network}
 pub mod Laws
+
+-- the first r literals and 2r + 2 labels of a network: "entries past r literals and N labels are unread"
+unfoldable pub listed : ℕ → Network → Net
+listed r w = record { literals = take r (w .literals); labels = take (2 * r + 2) (w .labels) }
 
 -- "the network with r = 0 and every entry 0"
 abbrev pub zeros : Network

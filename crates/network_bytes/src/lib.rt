@@ -1,8 +1,8 @@
-// A network as bytes, for a host: r, a literal for each switch, a label for each terminal.
+// A network as bytes, for a host: r, a literal for each switch, a label for each terminal; and back.
 use network::Network;
 ghost use mathlib.Core.Path.{_≡_};
 ghost use mathlib.Core.List.{_∷_, _++_};
-ghost use Rattle.network_bytes.specs.Bytes.{networkBytes};
+ghost use Rattle.network_bytes.specs.Bytes.{networkBytes, networkOf};
 
 // A network's r, its 7 literals and its 16 labels in one array.
 fn in_bytes(r: u8, literals: [u8; 7], labels: [u8; 16]) -> [u8; 24]
@@ -43,4 +43,40 @@ pub fn network_bytes(w: Network) -> [u8; 24]
     let literals = w.literals;
     let labels = w.labels;
     in_bytes(w.r, literals, labels)
+}
+
+// The network that 24 bytes are.
+pub fn network_of(bytes: [u8; 24]) -> Network
+    ensures { λ w. ⌜ w ≡ networkOf bytes ⌝ }
+{
+    Network {
+        r: bytes[0],
+        literals: [
+            bytes[1],
+            bytes[2],
+            bytes[3],
+            bytes[4],
+            bytes[5],
+            bytes[6],
+            bytes[7],
+        ],
+        labels: [
+            bytes[8],
+            bytes[9],
+            bytes[10],
+            bytes[11],
+            bytes[12],
+            bytes[13],
+            bytes[14],
+            bytes[15],
+            bytes[16],
+            bytes[17],
+            bytes[18],
+            bytes[19],
+            bytes[20],
+            bytes[21],
+            bytes[22],
+            bytes[23],
+        ],
+    }
 }

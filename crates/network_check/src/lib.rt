@@ -12,7 +12,8 @@ ghost use Prim.Native.Nat.{ℕ, _+_, _*_, _^_, _≤_, _<_};
 ghost use lib.ListN.{getD};
 ghost use Rattle.request.specs.Numbers.{Good};
 ghost use Rattle.rows.specs.Rows.{literalOn, rowAt};
-ghost use Rattle.network.specs.Check.{shutAt, labelIn, nearIn, atSink, touching, nearer, near, move, apart, literalsLow, labelsLowest, rowRight, listed, fitting, rowsAnswer, checkedOf};
+ghost use Rattle.network.specs.Check.{shutAt, labelIn, nearIn, atSink, touching, nearer, near, move, apart, literalsLow, labelsLowest, rowRight, fitting, rowsAnswer, numberOf, valuesOf, checkedNumber, checkedValues, checkedOf};
+ghost use Rattle.network.specs.Value.{listed};
 ghost use Rattle.network.specs.Meaning.{Means};
 
 // Which switches are closed on row k.
@@ -196,6 +197,8 @@ fn check_rows(q: Request, w: Network) -> Checked
 pub fn check_network(q: Request, w: Network) -> Checked
     ensures answer { λ x. ⌜ x ≡ checkedOf q w ⌝ }
     ensures meaning { λ x. ⌜ Means q w x ⌝ }
+    ensures number { λ x. ⌜ numberOf x ≡ checkedNumber q w ⌝ }
+    ensures values { λ x. ⌜ valuesOf x ≡ checkedValues q w ⌝ }
 {
     let refusal = request::numbers::test_request(q);
     if refusal != 0 {

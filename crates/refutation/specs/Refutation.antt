@@ -1,21 +1,17 @@
 -- What checking a refutation answers, and what it leaves in the slices that it was lent. Assumes nothing.
 use mathlib.Core.Bool.{cond}
-use mathlib.Core.List.{List, _++_}
+use mathlib.Core.List.{List, [], _∷_, _++_}
 use Prim.Native.Nat.{ℕ, _+_}
 use lib.Dec.{eqb, leb, ltb}
 use lib.IntN.{ℤ}
 use lib.ListN.{length, drop}
-use Rattle.prelude.specs.Blocks.{flatten, pairsFrom}
-use Rattle.prelude.specs.Written.{written}
 use Rattle.request.specs.declared.Request.{Request}
-use Rattle.formula.specs.Formula.{formulaOf}
-use Rattle.formula.specs.Count.{variableCount}
-use Rattle.store.specs.Store.{signs, storeRefusal}
+use Rattle.store.specs.Store.{storedFormula, storedVariables, storeRefusal, storedLiterals, storedPairs}
 use Rattle.lrat.specs.Bytes.{zeros}
 use Rattle.lrat.specs.Check.{Left, linesOf}
-use Rattle.refutation.specs.declared.Checked.{Checked}
-use Rattle.refutation.specs.declared.Outcome.{Outcome}
-use Rattle.refutation.specs.declared.Outcome.the-variants.{None, Refused}
+use Rattle.lrat.specs.Outcome.{outcomeOf, endNumber}
+use Rattle.lrat.specs.declared.Checked.{Checked}
+use Rattle.lrat.specs.declared.Outcome.the-variants.{Refused}
 pub mod Seam
 pub mod Laws
 pub mod Sound
@@ -30,27 +26,27 @@ pub record Lent : Type 0 where
 abbrev pub lent : List ℤ → List ℕ → List ℕ → List ℕ → Lent
 lent literals pairs added values = record { literals = literals; pairs = pairs; added = added; values = values }
 
--- document 01's number of an outcome, 0 for "none"
-abbrev pub outcomeNumber : Outcome → ℕ
-outcomeNumber None = 0
-outcomeNumber (Refused x) = x
-
 -- "7, 8; 14 if the byte slice of values is shorter than V+1; 15 for text above 16,777,215 bytes", after 2 to 5; 0 if none of these
 unfoldable pub refusalBefore : Request → ℕ → Lent → ℕ
 refusalBefore q size s =
     cond (eqb (storeRefusal q (length (s .literals)) (length (s .pairs))) 0)
-    (cond (leb (length (s .values)) (variableCount q)) 14 (cond (ltb 16777215 size) 15 0))
+    (cond (leb (length (s .values)) (storedVariables q)) 14 (cond (ltb 16777215 size) 15 0))
     (storeRefusal q (length (s .literals)) (length (s .pairs)))
-
--- the outcome of lines that end in a code: 1 is "none"
-unfoldable pub outcomeOf : ℕ → Outcome
-outcomeOf code = cond (eqb code 1) None (Refused code)
 
 -- the lines of a text, over a request's formula
 unfoldable pub linesFor : Request → List ℕ → List ℕ → Left
-linesFor q text added = linesOf (formulaOf q) text (variableCount q) added
+linesFor q text added = linesOf (storedFormula q) text (storedVariables q) added
 
--- the answer: "The result carries the number a of added pairs too, 0 for a refusal up to 15"
+-- checking a refutation in document 01's numbers: those before the lines, or that of the lines
+unfoldable pub checkNumber : Request → List ℕ → Lent → ℕ
+checkNumber q text s =
+    cond (eqb (refusalBefore q (length text) s) 0) (endNumber (linesFor q text (s .added) .code)) (refusalBefore q (length text) s)
+
+-- and values: "The result carries the number a of added pairs too, 0 for a refusal up to 15"
+unfoldable pub checkValues : Request → List ℕ → Lent → List ℕ
+checkValues q text s = cond (eqb (refusalBefore q (length text) s) 0) (linesFor q text (s .added) .a) 0 ∷ []
+
+-- the same as an answer of the program
 unfoldable pub checkAnswer : Request → List ℕ → Lent → Checked
 checkAnswer q text s =
     cond (eqb (refusalBefore q (length text) s) 0)
@@ -63,8 +59,8 @@ unfoldable pub checkLeaves : Request → List ℕ → Lent → Lent
 checkLeaves q text s =
     cond (eqb (refusalBefore q (length text) s) 0)
     (lent
-    (written (s .literals) 0 (signs (flatten (formulaOf q))))
-    (written (s .pairs) 0 (pairsFrom 0 (formulaOf q)))
+    (storedLiterals q (length (s .pairs)) (s .literals))
+    (storedPairs q (length (s .literals)) (s .pairs))
     (linesFor q text (s .added) .added)
-    (zeros (variableCount q + 1) ++ drop (variableCount q + 1) (s .values)))
+    (zeros (storedVariables q + 1) ++ drop (storedVariables q + 1) (s .values)))
     s

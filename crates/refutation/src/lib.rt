@@ -4,8 +4,10 @@
 // refuses the line as if nothing had been done. The values of a line are bytes with the line's stamp, so that the next line, with a
 // higher stamp, finds all variables unset; all bytes are cleared once in 127 lines. The definitions and their laws are in the crate
 // lrat, over any formula; here the formula is the one that the store holds.
+use lrat::Checked;
 use lrat::Ended;
 use lrat::Found;
+use lrat::Outcome;
 use lrat::Said;
 use lrat::Step;
 use numeral::Word;
@@ -13,11 +15,12 @@ use request::Request;
 ghost use mathlib.Core.Path.{_≡_};
 ghost use mathlib.Core.Bool.{true};
 ghost use Prim.Native.Nat.{_+_, _-_, _*_, _≤_, _<_};
-ghost use lib.IntN.{pos};
+ghost use lib.IntN as Z;
 ghost use lib.ListN.{length, getD};
 ghost use Rattle.prelude.specs.Signed.{isNegative, variable};
 ghost use Rattle.cnf.specs.Cnf.{Satisfiable};
-ghost use Rattle.formula.specs.Formula.{formulaOf};
+ghost use Rattle.network.specs.Least.{MoreThan};
+ghost use Rattle.store.specs.Store.{storedFormula};
 ghost use Rattle.numeral.specs.Number.{byteAt, numberAt, literalAt};
 ghost use Rattle.lrat.specs.Rules.{minusOf};
 ghost use Rattle.lrat.specs.Words.{plainAt, literalsAt, idsAt, runAt, deletionAt, additionAt};
@@ -25,9 +28,10 @@ ghost use Rattle.lrat.specs.Bytes.{Small, Old, zeros, valueOf, foundIn, Below, 
 ghost use Rattle.lrat.specs.Bytes.Scan.{sofar};
 ghost use Rattle.lrat.specs.State.{standsIn, clauseAt, deleted, deleteAll, Holds, Spelled, Fit, Hint, Hints};
 ghost use Rattle.lrat.specs.Check.{leaves, stepOf, lineStep, linesOf};
-ghost use Rattle.refutation.specs.Refutation.{lent, outcomeOf, checkAnswer, checkLeaves};
-ghost use Rattle.refutation.specs.declared.Checked.{Checked};
-ghost use Rattle.refutation.specs.declared.Outcome.the-variants.{None, Refused};
+ghost use Rattle.lrat.specs.Outcome.{numberOf, valuesOf, outcomeOf};
+ghost use Rattle.lrat.specs.declared.Checked.{Checked};
+ghost use Rattle.lrat.specs.declared.Outcome.the-variants.{None, Refused};
+ghost use Rattle.refutation.specs.Refutation.{lent, checkNumber, checkValues, checkAnswer, checkLeaves};
 
 // ---- a line's literals
 
@@ -200,8 +204,8 @@ fn variable_of(x: i32) -> u32
 
 // The literal in entry k of the store.
 fn stored(literals: &[i32], k: usize) -> Word
-    requires { ⌜ (k < length (now literals)) × (variable (getD (now literals) k (pos 0)) < 2147483648) ⌝ }
-    ensures { λ r. ⌜ r ≡ wordOf (getD (now (literals .entry)) k (pos 0)) ⌝ }
+    requires { ⌜ (k < length (now literals)) × (variable (getD (now literals) k (Z.pos 0)) < 2147483648) ⌝ }
+    ensures { λ r. ⌜ r ≡ wordOf (getD (now (literals .entry)) k (Z.pos 0)) ⌝ }
 {
     let x = literals[k];
     Word {
@@ -661,18 +665,6 @@ fn lines(
 
 // ---- the whole operation
 
-// What a check ends in: "none", or document 01's number of the refusal.
-pub enum Outcome {
-    None,
-    Refused(u8),
-}
-
-// The outcome, and the number of added pairs.
-pub struct Checked {
-    pub outcome: Outcome,
-    pub count: u32,
-}
-
 fn refused(number: u8) -> Checked
     ensures { λ x. ⌜ x ≡ record { outcome = Refused number; count = 0 } ⌝ }
 {
@@ -693,7 +685,7 @@ fn ended(code: u8) -> Outcome
 }
 
 // Checks a refutation of a request's clauses: the refusals before the lines write nothing; then the store is filled, and the lines are
-// followed. "none" means that the clauses cannot be satisfied.
+// followed. "none" means that the clauses cannot be satisfied, and so that every network that does the job has more than r switches.
 pub fn check(
     q: Request,
     text: &[u8],
@@ -704,17 +696,14 @@ pub fn check(
 ) -> Checked
     ensures answer { λ x. ⌜ x ≡ checkAnswer q (now (text .entry)) (lent (now (literals .entry)) (now (pairs .entry)) (now (added .entry)) (now (values .entry))) ⌝ }
     ensures slices { λ x. ⌜ lent (now (literals .exit)) (now (pairs .exit)) (now (added .exit)) (now (values .exit)) ≡ checkLeaves q (now (text .entry)) (lent (now (literals .entry)) (now (pairs .entry)) (now (added .entry)) (now (values .entry))) ⌝ }
-    ensures sound { λ x. ⌜ (x .outcome ≡ None → Satisfiable (formulaOf q) → ⊥) ⌝ }
+    ensures sound { λ x. ⌜ (x .outcome ≡ None → Satisfiable (storedFormula q) → ⊥) ⌝ }
+    ensures more { λ x. ⌜ (x .outcome ≡ None → MoreThan q) ⌝ }
+    ensures number { λ x. ⌜ numberOf x ≡ checkNumber q (now (text .entry)) (lent (now (literals .entry)) (now (pairs .entry)) (now (added .entry)) (now (values .entry))) ⌝ }
+    ensures values { λ x. ⌜ valuesOf x ≡ checkValues q (now (text .entry)) (lent (now (literals .entry)) (now (pairs .entry)) (now (added .entry)) (now (values .entry))) ⌝ }
 {
-    let size = clauses::count::count(q);
+    let size = store::store_sizes(q, literals.len(), pairs.len());
     if size.refusal != 0 {
         return refused(size.refusal);
-    }
-    if literals.len() < size.literals as usize {
-        return refused(7);
-    }
-    if pairs.len() < 2 * (size.clauses as usize) {
-        return refused(8);
     }
     let top = size.variables as usize;
     if values.len() <= top {

@@ -1,8 +1,11 @@
 -- What the report prints for the bytes of three files. Assumes nothing.
-use mathlib.Core.List.{List}
+use mathlib.Core.Path.{_≡_}
+use mathlib.Core.List.{List, [], _∷_}
 use Prim.Native.Nat.{ℕ}
+use lib.ListN.{take}
 use Rattle.request.specs.declared.Reading.{Reading}
 use Rattle.request.specs.declared.Reading.the-variants.{Taken, Refused as requestRefused}
+use Rattle.request.specs.declared.Request.{Request}
 use Rattle.request.specs.Line.{requestOf}
 use Rattle.refutation.specs.Refutation.{Lent}
 use Rattle.reports.specs.Reports.{refusedText, failsText, worksText, leastText}
@@ -11,7 +14,9 @@ use Rattle.settle.specs.declared.Verdict.{Verdict}
 use Rattle.settle.specs.declared.Verdict.the-variants.{Least, Works, Fails, Refused}
 use Rattle.settle.specs.Settle.{settlement, settleLeaves}
 use Rattle.network.specs.declared.Network.{Network}
+use Rattle.network.specs.Least.{LeastFor}
 pub mod Laws
+pub mod Says
 
 -- "It prints \"least k\", \"works k number\", \"fails k row\" or \"refused number\"; after the first two, a line \"s v a b\" per switch ..
 -- and \"sink c\""
@@ -36,3 +41,16 @@ readLeaves (requestRefused number) answer refutation s = s
 
 unfoldable pub reportLeaves : List ℕ → List ℕ → List ℕ → Lent → Lent
 reportLeaves request answer refutation s = readLeaves (requestOf request) answer refutation s
+
+-- a text begins with "least"
+abbrev pub BeginsLeast : List ℕ → Type 0
+BeginsLeast text = take 5 text ≡ 108 ∷ 101 ∷ 97 ∷ 115 ∷ 116 ∷ []
+
+-- what such a text says: its number is that of the network's switches, the lines after it are the network's, and the network is least
+-- for the request that was read
+pub record SaysLeast (request text : List ℕ) : Type 0 where
+  pub asked : Request
+  pub taken : requestOf request ≡ Taken asked
+  pub network : Network
+  pub text-is : text ≡ leastText (network .r) network
+  pub least : LeastFor asked network

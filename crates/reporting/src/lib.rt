@@ -7,7 +7,7 @@ ghost use mathlib.Core.Path.{_≡_};
 ghost use Prim.Native.Nat.{_≤_};
 ghost use Rattle.refutation.specs.Refutation.{lent};
 ghost use Rattle.reports.specs.Texts.{shown};
-ghost use Rattle.reporting.specs.Report.{reportText, reportLeaves};
+ghost use Rattle.reporting.specs.Report.{reportText, reportLeaves, BeginsLeast, SaysLeast};
 
 pub fn report(
     request: &[u8],
@@ -20,6 +20,7 @@ pub fn report(
 ) -> Text
     ensures text { λ t. ⌜ shown t ≡ reportText (now (request .entry)) (now (answer .entry)) (now (refutation .entry)) (lent (now (literals .entry)) (now (pairs .entry)) (now (added .entry)) (now (values .entry))) ⌝ }
     ensures slices { λ t. ⌜ lent (now (literals .exit)) (now (pairs .exit)) (now (added .exit)) (now (values .exit)) ≡ reportLeaves (now (request .entry)) (now (answer .entry)) (now (refutation .entry)) (lent (now (literals .entry)) (now (pairs .entry)) (now (added .entry)) (now (values .entry))) ⌝ }
+    ensures least { λ t. ⌜ (BeginsLeast (shown t) → SaysLeast (now (request .entry)) (shown t)) ⌝ }
 {
     match request_line::read_request(request) {
         Reading::Refused(number) => reports::refused_text(number),

@@ -12,7 +12,7 @@ ghost use lib.ListN.{getD};
 ghost use Rattle.rows.specs.Rows.{literalOn};
 ghost use Rattle.formula.specs.Clause.{literalsOf, Packed};
 ghost use Rattle.formula.specs.Formula.{sameSide, netSides, switchSides, offRow};
-ghost use Rattle.formula.specs.Formula.OffRow.{offRowLiterals};
+ghost use Rattle.formula.specs.Count.{offRowLiterals};
 ghost use Rattle.formula.specs.Pairs.{pairsBefore};
 
 // The clauses of an off row: two of one literal, the others of three.

@@ -13,7 +13,7 @@ ghost use Rattle.rows.specs.Rows.{literalOn};
 ghost use Rattle.network.specs.Networks.{other};
 ghost use Rattle.formula.specs.Clause.{literalsOf, Packed};
 ghost use Rattle.formula.specs.Formula.{closedStep, firstStep, linkStep, lastStep, onRow};
-ghost use Rattle.formula.specs.Formula.OnRow.{onRowCount, onRowLiterals};
+ghost use Rattle.formula.specs.Count.{onRowCount, onRowLiterals};
 
 // The clauses of an on row.
 pub(crate) fn on_row_count(n: u32, r: u32, m: u32) -> u32

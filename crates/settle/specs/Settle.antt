@@ -1,35 +1,41 @@
--- What settling says, what it leaves in the slices that it was lent, and what "least" means (document 01, "Settling takes a request
--- with r = k, an answer, a refutation for k−1" and demand 3). Assumes nothing.
-use mathlib.Core.Path.{_≡_}
+-- What settling says, and what it leaves in the slices that it was lent (document 01, "Settling takes a request with r = k, an answer,
+-- a refutation for k−1"). Assumes nothing.
 use mathlib.Core.Bool.{cond}
-use mathlib.Core.List.{List}
-use Prim.Native.Nat.{ℕ, _-_, _≤_}
-use lib.Dec.{eqb}
+use mathlib.Core.List.{List, [], _∷_}
+use Prim.Native.Nat.{ℕ, _-_, _^_}
+use lib.Dec.{eqb, ltb}
 use Rattle.request.specs.declared.Request.{Request}
 use Rattle.network.specs.declared.Network.{Network}
 use Rattle.network.specs.declared.Checked.{Checked}
 use Rattle.network.specs.declared.Checked.the-variants.{Does as does, Wrong, Refused as formRefused}
-use Rattle.network.specs.Networks.{Net, switches, Formed, Does}
-use Rattle.network.specs.Check.{listed, checkedOf}
+use Rattle.network.specs.Check.{firstWrong, checkedOf}
 use Rattle.network.specs.Value.{zeros}
 use Rattle.answer.specs.Reading.{readingOf}
-use Rattle.refutation.specs.declared.Outcome.{Outcome}
-use Rattle.refutation.specs.declared.Outcome.the-variants.{None, Refused as outcomeRefused}
-use Rattle.refutation.specs.Refutation.{Lent, checkAnswer, checkLeaves}
+use Rattle.lrat.specs.declared.Outcome.{Outcome}
+use Rattle.lrat.specs.declared.Outcome.the-variants.{None, Refused as outcomeRefused}
+use Rattle.refutation.specs.Refutation.{Lent, checkNumber, checkAnswer, checkLeaves}
 use Rattle.settle.specs.declared.Settlement.{Settlement}
 use Rattle.settle.specs.declared.Verdict.{Verdict}
 use Rattle.settle.specs.declared.Verdict.the-variants.{Least, Works, Fails, Refused}
 pub mod Laws
 pub mod Exactly
+pub mod Numbers
 pub mod Meaning
 
--- the number that document 01 prints with a verdict: "works k number", "fails k row", "refused number"; 0 with "least k", which has
--- none
+-- document 01's number of a verdict, 0 where it is not a refusal
 abbrev pub verdictNumber : Verdict → ℕ
 verdictNumber Least = 0
-verdictNumber (Works x) = x
-verdictNumber (Fails row) = row
+verdictNumber (Works x) = 0
+verdictNumber (Fails row) = 0
 verdictNumber (Refused x) = x
+
+-- and its values for a request with r = k: which of the four it is, in the order "least k", "works k number", "fails k row",
+-- "refused number", then k, and the number or the row
+abbrev pub verdictValues : ℕ → Verdict → List ℕ
+verdictValues k Least = 0 ∷ k ∷ []
+verdictValues k (Works x) = 1 ∷ k ∷ x ∷ []
+verdictValues k (Fails row) = 2 ∷ k ∷ row ∷ []
+verdictValues k (Refused x) = 3 ∷ []
 
 -- the request that the refutation is for: r is k−1, "the request's n, table and M stay"
 abbrev pub smaller : Request → Request
@@ -55,7 +61,26 @@ judged does v w = record { verdict = v; network = w }
 judged (Wrong row) v w = record { verdict = Fails row; network = w }
 judged (formRefused x) v w = refusedWith x
 
--- settling: "the answer's refusals; \"fails\" with the row; then, for k above 0, \"works\" with the refutation's number; else
+-- settling in document 01's numbers: "the answer's refusals". The network check adds none: never-refused, in Exactly
+unfoldable pub settleNumber : Request → List ℕ → ℕ
+settleNumber q answer = readingOf q answer .refusal
+
+-- the values where the network does the job: "then, for k above 0, \"works\" with the refutation's number; else \"least\""
+unfoldable pub valuesBelow : Request → List ℕ → Lent → List ℕ
+valuesBelow q refutation s =
+    cond (eqb (q .r) 0) (0 ∷ q .r ∷ [])
+    (cond (eqb (checkNumber (smaller q) refutation s) 0) (0 ∷ q .r ∷ []) (1 ∷ q .r ∷ checkNumber (smaller q) refutation s ∷ []))
+
+-- and the values of settling: "\"fails\" with the row", where the network has a wrong one; then those
+unfoldable pub settleValues : Request → List ℕ → List ℕ → Lent → List ℕ
+settleValues q answer refutation s =
+    cond (eqb (settleNumber q answer) 0)
+    (cond (ltb (firstWrong q (readingOf q answer .network)) (2 ^ (q .n)))
+    (2 ∷ q .r ∷ firstWrong q (readingOf q answer .network) ∷ [])
+    (valuesBelow q refutation s))
+    (3 ∷ [])
+
+-- the same as an answer of the program: "the answer's refusals; \"fails\" with the row; then, for k above 0, \"works\" with the refutation's number; else
 -- \"least\""
 unfoldable pub settlement : Request → List ℕ → List ℕ → Lent → Settlement
 settlement q answer refutation s =
@@ -80,16 +105,3 @@ settleLeaves q answer refutation s =
     cond (eqb (readingOf q answer .refusal) 0)
     (leftBy (checkedOf q (readingOf q answer .network)) s (leavesBelow q refutation s))
     s
-
--- "least" of a request with r = k and a network (demand 3)
-pub record LeastFor (q : Request) (w : Network) : Type 0 where
-  -- the network has k switches
-  pub size : w .r ≡ q .r
-  -- it has the form: "a literal for each switch and a label for each terminal", each label "the lowest terminal of its net"
-  pub form : Formed q (listed (q .r) w)
-  -- it does the job: "on each on row a walk from the source's net to the sink's net uses at most M closed switches, and on each off
-  -- row no walk of closed switches joins them"
-  pub does : Does q (listed (q .r) w)
-  -- no network with fewer does: "Each other network that demand 3 compares with k may have any number r of switches, past 7 too:
-  -- its literals and labels are then lists of r and N entries, and the request's n, table and M stay"
-  pub least : (v : Net) → Formed q v → Does q v → q .r ≤ switches v

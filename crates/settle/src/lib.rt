@@ -3,14 +3,15 @@
 //
 // The answer gives the network, the network is checked against the request, and the refutation is checked against the request with
 // one switch fewer. A network of fewer switches than that needs no refutation of its own: a dangling switch may be added to it.
+use lrat::Outcome;
 use network::Checked;
 use network::Network;
-use refutation::Outcome;
 use request::Request;
 ghost use mathlib.Core.Path.{_≡_};
 ghost use Prim.Native.Nat.{_<_};
 ghost use Rattle.refutation.specs.Refutation.{lent};
-ghost use Rattle.settle.specs.Settle.{smaller, outcomeVerdict, refusedWith, settlement, settleLeaves, LeastFor};
+ghost use Rattle.network.specs.Least.{LeastFor};
+ghost use Rattle.settle.specs.Settle.{verdictNumber, verdictValues, smaller, outcomeVerdict, refusedWith, settleNumber, settleValues, settlement, settleLeaves};
 ghost use Rattle.settle.specs.declared.Verdict.the-variants.{Least};
 
 // What settling says: k is the least number of switches; the network works, with the number that the refutation is refused with; it
@@ -85,6 +86,8 @@ pub fn settle(
     ensures settled { λ x. ⌜ x ≡ settlement q (now (answer .entry)) (now (refutation .entry)) (lent (now (literals .entry)) (now (pairs .entry)) (now (added .entry)) (now (values .entry))) ⌝ }
     ensures slices { λ x. ⌜ lent (now (literals .exit)) (now (pairs .exit)) (now (added .exit)) (now (values .exit)) ≡ settleLeaves q (now (answer .entry)) (now (refutation .entry)) (lent (now (literals .entry)) (now (pairs .entry)) (now (added .entry)) (now (values .entry))) ⌝ }
     ensures least { λ x. ⌜ (x .verdict ≡ Least → LeastFor q (x .network)) ⌝ }
+    ensures number { λ x. ⌜ verdictNumber (x .verdict) ≡ settleNumber q (now (answer .entry)) ⌝ }
+    ensures values { λ x. ⌜ verdictValues (q .r) (x .verdict) ≡ settleValues q (now (answer .entry)) (now (refutation .entry)) (lent (now (literals .entry)) (now (pairs .entry)) (now (added .entry)) (now (values .entry))) ⌝ }
 {
     let read = reading::read::read_answer(q, answer);
     if read.refusal != 0 {

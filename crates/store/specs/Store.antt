@@ -9,13 +9,15 @@ use lib.ListN.{length}
 use Rattle.prelude.specs.Blocks.{flatten, pairsFrom}
 use Rattle.prelude.specs.Lists.{Each}
 use Rattle.prelude.specs.Written.{written}
-use Rattle.cnf.specs.Cnf.{signedOf}
+use Rattle.cnf.specs.Cnf.{Formula, signedOf}
 use Rattle.cnf.specs.declared.Literal.{Literal}
 use Rattle.request.specs.Numbers.{Good, refusalOf}
 use Rattle.request.specs.declared.Request.{Request}
 use Rattle.formula.specs.Formula.{formulaOf}
-use Rattle.formula.specs.Count.{clauseCount, literalCount}
+use Rattle.formula.specs.Count.{variableCount, clauseCount, literalCount}
+use Rattle.store.specs.declared.Stored.{Stored}
 pub mod Laws
+pub mod Promise
 
 -- literals as "32-bit signed literals"
 abbrev pub signs : List Literal → List ℤ
@@ -25,12 +27,26 @@ signs ls = map signedOf ls
 abbrev pub Low : List Literal → Type 0
 Low ls = Each (λ l. l .variable ≤ 10000) ls
 
+-- the clauses that the store holds, and V: the names by which a reader above the store knows them
+abbrev pub storedFormula : Request → Formula
+storedFormula q = formulaOf q
+
+abbrev pub storedVariables : Request → ℕ
+storedVariables q = variableCount q
+
 -- "7 if the literal slice is shorter than T; 8 if the pair slice is shorter than 2C", after 2 to 5
 unfoldable pub storeRefusal : Request → ℕ → ℕ → ℕ
 storeRefusal q literals pairs =
     cond (eqb (refusalOf q) 0)
     (cond (ltb literals (literalCount q)) 7 (cond (ltb pairs (2 * clauseCount q)) 8 0))
     (refusalOf q)
+
+-- the same with V, C and T, where nothing is refused
+unfoldable pub storeSizes : Request → ℕ → ℕ → Stored
+storeSizes q literals pairs =
+    cond (eqb (storeRefusal q literals pairs) 0)
+    (record { refusal = 0; variables = storedVariables q; clauses = clauseCount q; literals = literalCount q })
+    (record { refusal = storeRefusal q literals pairs; variables = 0; clauses = 0; literals = 0 })
 
 -- the literals of the clauses, one clause after the other; a refusal writes nothing, and entries past T stand
 unfoldable pub storedLiterals : Request → ℕ → List ℤ → List ℤ

@@ -15,7 +15,15 @@ ghost use Rattle.cnf.specs.Cnf.{signedOf};
 ghost use Rattle.formula.specs.Clause.{run, literalsOf};
 ghost use Rattle.prelude.specs.Blocks.{flatten, pairsFrom};
 ghost use Rattle.formula.specs.Formula.{formulaOf};
-ghost use Rattle.store.specs.Store.{signs, Low, storeRefusal, storedLiterals, storedPairs, Roomy};
+ghost use Rattle.store.specs.Store.{signs, Low, storeRefusal, storeSizes, storedLiterals, storedPairs, Roomy};
+
+// The refusal of storing a request's clauses, 0 where there is none; V, C and T, 0 where there is one.
+pub struct Stored {
+    pub refusal: u8,
+    pub variables: u32,
+    pub clauses: u32,
+    pub literals: u32,
+}
 
 // The signed number of a literal. A request's variables are far below the bound.
 fn signed(literal: Literal) -> i32
@@ -78,21 +86,48 @@ fn put_pair(pairs: &mut [u32], k: usize, offset: u32, count: u32)
     pairs[2 * k + 1] = count;
 }
 
+fn refused(refusal: u8) -> Stored
+    ensures { λ x. ⌜ x ≡ record { refusal = refusal; variables = 0; clauses = 0; literals = 0 } ⌝ }
+{
+    Stored {
+        refusal: refusal,
+        variables: 0,
+        clauses: 0,
+        literals: 0,
+    }
+}
+
+// Whether slices of these lengths have room for the clauses of a request, and V, C and T. Nothing is stored.
+pub fn store_sizes(q: Request, literals: usize, pairs: usize) -> Stored
+    ensures { λ x. ⌜ x ≡ storeSizes q literals pairs ⌝ }
+{
+    let size = clauses::count::count(q);
+    if size.refusal != 0 {
+        return refused(size.refusal);
+    }
+    if literals < size.literals as usize {
+        return refused(7);
+    }
+    if pairs < 2 * (size.clauses as usize) {
+        return refused(8);
+    }
+    Stored {
+        refusal: 0,
+        variables: size.variables,
+        clauses: size.clauses,
+        literals: size.literals,
+    }
+}
+
 // Stores the clauses of a request: 0, or the number of the refusal.
 pub fn store_clauses(q: Request, literals: &mut [i32], pairs: &mut [u32]) -> u8
     ensures answer { λ x. ⌜ x ≡ storeRefusal q (length (now (literals .entry))) (length (now (pairs .entry))) ⌝ }
     ensures literals { λ x. ⌜ now (literals .exit) ≡ storedLiterals q (length (now (pairs .entry))) (now (literals .entry)) ⌝ }
     ensures pairs { λ x. ⌜ now (pairs .exit) ≡ storedPairs q (length (now (literals .entry))) (now (pairs .entry)) ⌝ }
 {
-    let size = clauses::count::count(q);
+    let size = store_sizes(q, literals.len(), pairs.len());
     if size.refusal != 0 {
         return size.refusal;
-    }
-    if literals.len() < size.literals as usize {
-        return 7;
-    }
-    if pairs.len() < 2 * (size.clauses as usize) {
-        return 8;
     }
     fill(q, size.clauses, literals, pairs);
     0

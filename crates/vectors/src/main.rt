@@ -1,5 +1,5 @@
 // Runs the proved functions on examples and writes what each answers, a line for each: requests read from text, requests given as
-// numbers, networks checked and compared. What it must write stands in the file stdout beside src/.
+// numbers, networks checked and compared, parts of a refutation's text. What it must write stands in the file stdout beside src/.
 use network::Checked;
 use network::Network;
 use request::Reading;
@@ -56,6 +56,12 @@ fn show_same(a: Network, b: Network) {
     } else {
         io::write_all(1, b"other\n");
     }
+}
+
+fn show_part(text: &[u8], pairs: &[u32], c: u32, a: u32, id: u32) {
+    io::write_all(1, b"part ");
+    io::write_all(1, added::part(text, pairs, c, a, id));
+    io::write_all(1, b".\n");
 }
 
 // Requests as text: document 01's, then one for each way in which the form or a number is refused.
@@ -268,9 +274,30 @@ fn small() {
     );
 }
 
+// Two added clauses of a text over six original ones, the ids around them, and a third that was deleted; then pairs that leave the
+// text or their slice, also where a sum of offset and length, or of C and a, is past 32 bits.
+fn parts() {
+    let text = b"7 1 -2 0 5 6 0\n8 -1 0 7 0\n9 3 0 8 0\n";
+    let pairs = [2u32, 4, 17, 2, 29, 0];
+    show_part(text, &pairs, 6, 3, 6);
+    show_part(text, &pairs, 6, 3, 7);
+    show_part(text, &pairs, 6, 3, 8);
+    show_part(text, &pairs, 6, 3, 9);
+    show_part(text, &pairs, 6, 3, 10);
+    show_part(text, &pairs, 6, 1, 8);
+    show_part(text, &pairs, 6, 9, 10);
+    show_part(text, &pairs, 7, 4294967295, 8);
+    let outside = [28u32, 8, 29, 8, 4294967295, 4294967295, 36];
+    show_part(text, &outside, 0, 4, 1);
+    show_part(text, &outside, 0, 4, 2);
+    show_part(text, &outside, 0, 4, 3);
+    show_part(text, &outside, 0, 4, 4);
+}
+
 fn main() {
     requests();
     numbers();
     exclusive();
     small();
+    parts();
 }

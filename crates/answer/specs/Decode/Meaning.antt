@@ -17,7 +17,7 @@ use Rattle.prelude.specs.Blocks.{each, for}
 use Rattle.cnf.specs.Cnf.{pos, neg, Clause, Formula, Assignment, literalHolds, clauseHolds, Sat}
 use Rattle.formula.specs.Formula.{terminals, pairNumber, X, L, triple, transitivity, choice, choices}
 use Rattle.network.specs.Networks.{Net, FormedAs, literalAt, labelAt}
-use Rattle.network.specs.Check.{listed}
+use Rattle.network.specs.Value.{listed}
 use Rattle.answer.specs.Decode.{lowest, literalFor, labelFor, decoded}
 use Rattle.answer.specs.Decode.Laws.{entry}
 

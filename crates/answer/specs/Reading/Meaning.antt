@@ -18,7 +18,8 @@ use Rattle.request.specs.Numbers.{refusalOf}
 use Rattle.request.specs.Numbers.Laws.{refusal-good}
 use Rattle.network.specs.declared.Network.{Network}
 use Rattle.network.specs.Networks.{FormedAs, literalAt, labelAt}
-use Rattle.network.specs.Check.{labelIn, listed, fitting}
+use Rattle.network.specs.Check.{labelIn, fitting}
+use Rattle.network.specs.Value.{listed}
 use Rattle.network.specs.Check.Laws.{literals-below, labels-right, listed-literal, listed-label, form-right}
 use Rattle.formula.specs.Count.{variableCount}
 use Rattle.formula.specs.Formula.{X, L, transitivity, choices, formulaOf}

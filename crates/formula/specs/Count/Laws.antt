@@ -23,10 +23,10 @@ use Rattle.request.specs.Numbers.Laws.{rows-high}
 use Rattle.request.specs.declared.Request.{Request}
 use Rattle.formula.specs.Formula.{P, terminals, transitivity, choices, onRow, offRow, rowVariables, rowClauses, rowsFrom, formula, formulaOf}
 use Rattle.formula.specs.Formula.Groups.{transitivity-length, transitivity-literals, choices-length, choices-literals}
-use Rattle.formula.specs.Formula.OnRow.{onRowCount, onRowLiterals, on-row-length, on-row-literals}
-use Rattle.formula.specs.Formula.OffRow.{offRowCount, offRowLiterals, off-row-length, off-row-literals}
+use Rattle.formula.specs.Formula.OnRow.{on-row-length, on-row-literals}
+use Rattle.formula.specs.Formula.OffRow.{off-row-length, off-row-literals}
 use Rattle.formula.specs.Formula.Rows.{variablesIn, rows-append, variables-append}
-use Rattle.formula.specs.Count.{split, clausesBefore, literalsBefore, clauseCount, literalCount, variableCount, sizesOf}
+use Rattle.formula.specs.Count.{onRowCount, onRowLiterals, offRowCount, offRowLiterals, split, clausesBefore, literalsBefore, clauseCount, literalCount, variableCount, sizesOf}
 
 -- no more on rows than rows
 pub on-most : (table k : ℕ) → onBelow table k ≤ k

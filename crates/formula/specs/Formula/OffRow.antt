@@ -18,14 +18,6 @@ use Rattle.formula.specs.Values.{NthIs, hasValue}
 use Rattle.formula.specs.Values.Laws.{half-count, chosenBlock, chosen-length, chosen-at}
 use Rattle.formula.specs.Formula.{X, L, S, sameSide, netSides, switchSides, offRow}
 
--- the clauses of an off row
-abbrev pub offRowCount : ℕ → ℕ → ℕ
-offRowCount n r = 2 + 2 * pairsBefore (2 * r + 2) (2 * r + 2) + r * (n * 2)
-
--- the literals of an off row
-abbrev pub offRowLiterals : ℕ → ℕ → ℕ
-offRowLiterals n r = 2 + 3 * (2 * pairsBefore (2 * r + 2) (2 * r + 2) + r * (n * 2))
-
 -- the first clause for two terminals
 pub same-side-first : (x a b part : ℕ) (u v w : Literal) → part ≡ 0 → u ≡ neg x → v ≡ neg a → w ≡ pos b
     → u ∷ v ∷ w ∷ [] ≡ getD (sameSide x a b) part []

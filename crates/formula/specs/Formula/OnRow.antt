@@ -16,18 +16,10 @@ use Rattle.cnf.specs.Cnf.{pos, neg, Clause, Formula}
 use Rattle.rows.specs.Rows.{literalOn}
 use Rattle.network.specs.Networks.{source, sink, switchOf, other}
 use Rattle.formula.specs.Clause.{run}
+use Rattle.formula.specs.Count.{onRowCount, onRowLiterals}
 use Rattle.formula.specs.Values.{countBelow, NthIs, hasValue}
 use Rattle.formula.specs.Values.Laws.{half-count, chosen-length, chosen-at}
 use Rattle.formula.specs.Formula.{X, L, W, Z, someStep, closedStep, firstStep, linkStep, lastStep, onRow}
-
--- the clauses of an on row
-unfoldable pub onRowCount : ℕ → ℕ → ℕ → ℕ
-onRowCount n r m = cond (eqb m 0) 1 (m + m * (2 * r * n) + (2 * r + 1) + (m - 1) * (2 * r * (2 * r)) + 2 * r)
-
--- the literals of an on row
-unfoldable pub onRowLiterals : ℕ → ℕ → ℕ → ℕ
-onRowLiterals n r m =
-    cond (eqb m 0) 1 (m * (2 * r + 1) + 2 * (m * (2 * r * n)) + 2 * (2 * r + 1) + 3 * ((m - 1) * (2 * r * (2 * r))) + 2 * (2 * r))
 
 -- entries except those at which a test holds
 module _ {A : Type 0} (q : ℕ → Bool) (x : ℕ → A) where

@@ -21,11 +21,9 @@ use Rattle.request.specs.Numbers.{Good, refusalOf}
 use Rattle.request.specs.Numbers.Laws.{good-refusal, refusal-good}
 use Rattle.request.specs.declared.Request.{Request}
 use Rattle.formula.specs.Formula.{P, transitivity, choices, rowClauses, rowsFrom, formula, formulaOf}
-use Rattle.formula.specs.Formula.OnRow.{onRowCount}
-use Rattle.formula.specs.Formula.OffRow.{offRowCount}
 use Rattle.formula.specs.Formula.Rows.{variablesIn, rows-at}
 use Rattle.formula.specs.Formula.Range.{ClauseIn, range, variables-most}
-use Rattle.formula.specs.Count.{split, variablesBefore, clausesBefore, variableCount}
+use Rattle.formula.specs.Count.{onRowCount, offRowCount, split, variablesBefore, clausesBefore, variableCount}
 use Rattle.formula.specs.Count.Laws.{rowsBelow, variables-below, row-length, rows-clauses, split-none, split-more}
 use Rattle.formula.specs.Named.{networkClauses, networkClause}
 use Rattle.formula.specs.Named.Laws.{clauses-there, clause-inside}

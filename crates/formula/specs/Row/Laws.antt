@@ -13,8 +13,9 @@ use Rattle.rows.specs.Rows.{literalOn}
 use Rattle.request.specs.Numbers.{Good}
 use Rattle.request.specs.declared.Request.{Request}
 use Rattle.formula.specs.Formula.{onRow, offRow}
-use Rattle.formula.specs.Formula.OnRow.{onRowCount, onRowLiterals, on-row-length}
-use Rattle.formula.specs.Formula.OffRow.{offRowCount, offRowLiterals, off-row-length}
+use Rattle.formula.specs.Count.{onRowCount, onRowLiterals, offRowCount, offRowLiterals}
+use Rattle.formula.specs.Formula.OnRow.{on-row-length}
+use Rattle.formula.specs.Formula.OffRow.{off-row-length}
 use Rattle.formula.specs.Row.{sized, rowCount, rowLiterals, clausesOf, rowClause}
 
 -- numbers that a request may have

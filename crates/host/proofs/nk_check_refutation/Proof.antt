@@ -1,11 +1,39 @@
 -- The outcome is handed on as a number; 0 is that of "none" alone. Assumes nothing.
-use Rattle.refutation.specs.declared.Checked.{Checked}
-use Rattle.refutation.specs.Refutation.{outcomeNumber}
-use Rattle.refutation.specs.Refutation.Sound.{number-none}
-use mathlib.Core.Path.{sym, ap, _∙_}
+use mathlib.Core.Path.{_≡_, sym, ap, _∙_}
+use mathlib.Core.List.{List}
+use Prim.Native.Nat.{ℕ}
+use Rattle.cnf.specs.Cnf.{Satisfiable}
+use Rattle.request.specs.declared.Request.{Request}
+use Rattle.network.specs.Least.{MoreThan}
+use Rattle.formula.specs.Formula.{formulaOf}
+use Rattle.lrat.specs.declared.Checked.{Checked}
+use Rattle.lrat.specs.declared.Outcome.{Outcome}
+use Rattle.lrat.specs.Outcome.{outcomeNumber, numberOf, valuesOf}
+use Rattle.refutation.specs.Refutation.{Lent, checkNumber, checkValues, checkLeaves}
+use Rattle.refutation.specs.Refutation.Sound.{number-none, none-unsatisfiable, none-more}
 use borrow.Author.Needs.{needs}
 use Rattle.host.proofs.nk_check_refutation.Statement.{statement}
 use Rattle.host.proofs.nk_check_refutation.Tie as tie
+
+-- a result x with the outcome o, by o's number
+handed : (q : Request) (text : List ℕ) (before after : Lent) (x : Checked) (o : Outcome) → x .outcome ≡ o → after ≡ checkLeaves q text before
+    → numberOf x ≡ checkNumber q text before → valuesOf x ≡ checkValues q text before
+    → (outcomeNumber o ≡ checkNumber q text before) × ((valuesOf x ≡ checkValues q text before) × ((after ≡ checkLeaves q text before)
+    × ((outcomeNumber o ≡ 0 → Satisfiable (formulaOf q) → ⊥) × (outcomeNumber o ≡ 0 → MoreThan q))))
+handed q text before after x o e s n v =
+    let z = ap outcomeNumber (sym e) ∙ n in (
+      z,
+      (
+        v,
+        (
+          s,
+          (
+            λ y. none-unsatisfiable q text before (number-none q text before (sym z ∙ y)),
+            λ y. none-more q text before (number-none q text before (sym z ∙ y)),
+          ),
+        ),
+      ),
+    )
 
 check-requires : tie.Need-check-requires
 check-requires c κs = search needs
@@ -33,9 +61,7 @@ same-length-4 c = search needs
 
 returns : tie.Need-returns
 returns c = let k = c .before .before .before .before .before .before .before .before .before in
-    let e = k .check .ensures .0 in
-    let o = c .enum-told .given .1 in
-    (ap outcomeNumber (sym o ∙ ap (λ (x : Checked). x .outcome) e), (ap (λ (x : Checked). x .count) e, (k .check .ensures .1 .0, λ _. k .check .ensures .1 .1 o)))
+    handed _ _ _ _ (k .check .result) _ (c .enum-told .given .1) (k .check .ensures .1 .0) (k .check .ensures .1 .1 .1 .1 .0) (k .check .ensures .1 .1 .1 .1 .1)
 
 same-length-5 : tie.Need-same-length-5
 same-length-5 c = search needs
@@ -51,9 +77,7 @@ same-length-8 c = search needs
 
 returns-2 : tie.Need-returns-2
 returns-2 c = let k = c .before .before .before .before .before .before .before .before .before .before in
-    let e = k .check .ensures .0 in
-    let n = ap outcomeNumber (sym (c .before .outcome .given .1) ∙ ap (λ (x : Checked). x .outcome) e) in
-    (n, (ap (λ (x : Checked). x .count) e, (k .check .ensures .1 .0, λ z. k .check .ensures .1 .1 (ap (λ (x : Checked). x .outcome) e ∙ number-none _ _ _ (sym n ∙ z)))))
+    handed _ _ _ _ (k .check .result) _ (c .before .outcome .given .1) (k .check .ensures .1 .0) (k .check .ensures .1 .1 .1 .1 .0) (k .check .ensures .1 .1 .1 .1 .1)
 
 pub nk-check-refutation-spec : {M : Type 1} → statement M
 nk-check-refutation-spec =

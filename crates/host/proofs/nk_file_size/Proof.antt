@@ -1,10 +1,20 @@
 -- The answer is a length or a refusal; either is handed on as a number. Assumes nothing.
-use Rattle.size.specs.File.{numberOf}
-use Rattle.host.specs.Entries.{bytesOr}
-use mathlib.Core.Path.{sym, ap, _∙_}
+use mathlib.Core.Path.{_≡_, sym, ap, _∙_}
+use mathlib.Core.List.{List}
+use Prim.Native.Nat.{ℕ}
+use lib.ListN.{getD}
+use Rattle.request.specs.declared.Request.{Request}
+use Rattle.request.specs.Numbers.{refusalOf}
+use Rattle.size.specs.declared.Answer.{Answer}
+use Rattle.size.specs.File.{numberOf, valuesOf, sizeValues}
 use borrow.Author.Needs.{needs}
 use Rattle.host.proofs.nk_file_size.Statement.{statement}
 use Rattle.host.proofs.nk_file_size.Tie as tie
+
+-- an answer x that is y, by y's number and values
+handed : (q : Request) (old : ℕ) (x y : Answer) → x ≡ y → numberOf x ≡ refusalOf q → valuesOf x ≡ sizeValues q
+    → (numberOf y ≡ refusalOf q) × (getD (valuesOf y) 0 old ≡ getD (sizeValues q) 0 old)
+handed q old x y e n v = (ap numberOf (sym e) ∙ n, ap (λ (l : List ℕ). getD l 0 old) (ap valuesOf (sym e) ∙ v))
 
 file-size-requires : tie.Need-file-size-requires
 file-size-requires c κs = search needs
@@ -20,13 +30,13 @@ cast-result c = search needs
 
 returns : tie.Need-returns
 returns c =
-    let e = sym (c .before .k .given .1) ∙ c .before .before .before .file-size .ensures .0 in
-    (ap numberOf e, ap (bytesOr (c .before .before .before .before .args .size .now)) e)
+    let f = c .before .before .before in
+    handed _ (f .before .args .size .now) _ _ (c .before .k .given .1) (f .file-size .ensures .1 .1 .0) (f .file-size .ensures .1 .1 .1)
 
 returns-2 : tie.Need-returns-2
 returns-2 c =
-    let e = sym (c .before .x .given .1) ∙ c .before .before .before .file-size .ensures .0 in
-    (ap numberOf e, ap (bytesOr (c .before .before .before .before .args .size .now)) e)
+    let f = c .before .before .before in
+    handed _ (f .before .args .size .now) _ _ (c .before .x .given .1) (f .file-size .ensures .1 .1 .0) (f .file-size .ensures .1 .1 .1)
 
 pub nk-file-size-spec : {M : Type 1} → statement M
 nk-file-size-spec =

@@ -1,5 +1,5 @@
 -- The verdict, its number and the network are handed on; 0 is the number of "least" alone. Assumes nothing.
-use mathlib.Core.Path.{_≡_, sym, ap, _∙_, subst}
+use mathlib.Core.Path.{_≡_, sym, ap, ap₂, _∙_, subst}
 use mathlib.Core.List.{List}
 use Prim.Native.Nat.{ℕ}
 use borrow.Author.Needs.{needs}
@@ -7,9 +7,10 @@ use Rattle.request.specs.declared.Request.{Request}
 use Rattle.refutation.specs.Refutation.{Lent, lent}
 use Rattle.settle.specs.declared.Settlement.{Settlement}
 use Rattle.settle.specs.declared.Verdict.the-variants.{Least}
-use Rattle.settle.specs.Settle.{verdictNumber, settlement, settleLeaves, LeastFor}
+use Rattle.network.specs.Least.{LeastFor}
+use Rattle.settle.specs.Settle.{verdictNumber, verdictValues, settleNumber, settleValues, settlement, settleLeaves}
 use Rattle.network_bytes.specs.Bytes.{networkBytes}
-use Rattle.host.specs.Entries.{verdictCode}
+use Rattle.host.specs.Entries.{verdictCode, verdictDetail}
 use Rattle.host.specs.Entries.Laws.{code-least}
 use Rattle.host.proofs.nk_settle.Statement.{statement}
 use Rattle.host.proofs.nk_settle.Tie as tie
@@ -17,21 +18,22 @@ use Rattle.host.proofs.nk_settle.Tie as tie
 -- what is ensured, from what settling ensures of its result x and of the slices l
 module _ (q : Request) (answer refutation : List ℕ) (before : Lent) (x : Settlement) (l : Lent)
     (x-is : x ≡ settlement q answer refutation before) (l-is : l ≡ settleLeaves q answer refutation before)
-    (least : x .verdict ≡ Least → LeastFor q (x .network)) where
-  abbrev settled : Settlement
-  settled = settlement q answer refutation before
-
-  handed : (code : ℕ) → code ≡ verdictCode (x .verdict) → (number : ℕ) → number ≡ verdictNumber (x .verdict)
+    (least : x .verdict ≡ Least → LeastFor q (x .network)) (number-is : verdictNumber (x .verdict) ≡ settleNumber q answer)
+    (values-are : verdictValues (q .r) (x .verdict) ≡ settleValues q answer refutation before) where
+  handed : (code : ℕ) → code ≡ verdictCode (verdictValues (q .r) (x .verdict))
+      → (number : ℕ) → number ≡ verdictDetail (verdictNumber (x .verdict)) (verdictValues (q .r) (x .verdict))
       → (bytes : List ℕ) → bytes ≡ networkBytes (x .network)
-      → (code ≡ verdictCode (settled .verdict)) × ((number ≡ verdictNumber (settled .verdict)) × ((bytes ≡ networkBytes (settled .network))
-      × ((l ≡ settleLeaves q answer refutation before) × (code ≡ 0 → LeastFor q (settled .network)))))
+      → (code ≡ verdictCode (settleValues q answer refutation before))
+      × ((number ≡ verdictDetail (settleNumber q answer) (settleValues q answer refutation before))
+      × ((bytes ≡ networkBytes (settlement q answer refutation before .network))
+      × ((l ≡ settleLeaves q answer refutation before) × (code ≡ 0 → LeastFor q (settlement q answer refutation before .network)))))
   handed code c number n bytes b = (
-    c ∙ ap (λ (y : Settlement). verdictCode (y .verdict)) x-is,
+    c ∙ ap verdictCode values-are,
     (
-      n ∙ ap (λ (y : Settlement). verdictNumber (y .verdict)) x-is,
+      n ∙ ap₂ verdictDetail number-is values-are,
       (
         b ∙ ap (λ (y : Settlement). networkBytes (y .network)) x-is,
-        (l-is, λ z. subst (λ (y : Settlement). LeastFor q (y .network)) x-is (least (code-least (x .verdict) (sym c ∙ z)))),
+        (l-is, λ z. subst (λ (y : Settlement). LeastFor q (y .network)) x-is (least (code-least (q .r) (x .verdict) (sym c ∙ z)))),
       ),
     ),
   )
@@ -42,8 +44,8 @@ settle-requires c κs = search needs
 network-bytes-requires : tie.Need-network-bytes-requires
 network-bytes-requires c κs = search needs
 
-verdict-number-requires : tie.Need-verdict-number-requires
-verdict-number-requires c κs = search needs
+verdict-detail-requires : tie.Need-verdict-detail-requires
+verdict-detail-requires c κs = search needs
 
 verdict-code-requires : tie.Need-verdict-code-requires
 verdict-code-requires c κs = search needs
@@ -67,8 +69,9 @@ returns c =
     let s = k .before .before .before .before .before .before .before .before .before .before in
     handed _ (s .args .answer .now) (s .args .refutation .now)
     (lent (s .args .literals .now) (s .args .pairs .now) (s .args .added .now) (s .args .values .now))
-    (k .settle .result) _ (k .settle .ensures .0) (k .settle .ensures .1 .0) (k .settle .ensures .1 .1)
-    _ (c .verdict-code .ensures) _ (c .before .verdict-number .ensures) _ (b .network-bytes .ensures)
+    (k .settle .result) _ (k .settle .ensures .0) (k .settle .ensures .1 .0) (k .settle .ensures .1 .1 .0)
+    (k .settle .ensures .1 .1 .1 .0) (k .settle .ensures .1 .1 .1 .1)
+    _ (c .verdict-code .ensures) _ (c .before .verdict-detail .ensures) _ (b .network-bytes .ensures)
 
 pub nk-settle-spec : {M : Type 1} → statement M
 nk-settle-spec =
@@ -76,7 +79,7 @@ nk-settle-spec =
     (tie.spec
     settle-requires
     network-bytes-requires
-    verdict-number-requires
+    verdict-detail-requires
     verdict-code-requires
     same-length
     same-length-2

@@ -17,7 +17,8 @@ use Rattle.rows.specs.Rows.{Row, rowAt, rowsOf, bit, literalOn}
 use Rattle.rows.specs.Rows.Laws.{rows-length, rows-at}
 use Rattle.request.specs.declared.Request.{Request}
 use Rattle.network.specs.Networks.{source, sink, switchOf, other, closedOn, literalAt, labelAt}
-use Rattle.network.specs.Check.{labelIn, atSink, leads, touching, nearer, near, move, part, apart, rightIf, rowRight, literalsLow, labelsLowest, listed, fitting, firstWrong, rowsAnswer, checkedOf}
+use Rattle.network.specs.Check.{labelIn, atSink, leads, touching, nearer, near, move, part, apart, rightIf, rowRight, literalsLow, labelsLowest, fitting, firstWrong, rowsAnswer, checkedOf}
+use Rattle.network.specs.Value.{listed}
 use Rattle.network.specs.declared.Network.{Network}
 use Rattle.network.specs.declared.Checked.the-variants.{Does, Wrong, Refused}
 

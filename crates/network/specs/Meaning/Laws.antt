@@ -21,7 +21,8 @@ use Rattle.rows.specs.Rows.Laws.{rows-length, rows-at}
 use Rattle.request.specs.declared.Request.{Request}
 use Rattle.network.specs.Networks.{Net, source, sink, switchOf, other, literalAt, labelAt, switches, FormedAs, closedOn, Enters, Walk, DoneIf, Done, DoesAll, Does as DoesJob}
 use Rattle.network.specs.Networks.Laws.{walk-append}
-use Rattle.network.specs.Check.{atSink, leads, touching, nearer, near, move, part, apart, rightIf, rowRight, labelIn, literalsLow, labelsLowest, listed, fitting, firstWrong, rowsAnswer, checkedOf}
+use Rattle.network.specs.Check.{atSink, leads, touching, nearer, near, move, part, apart, rightIf, rowRight, labelIn, literalsLow, labelsLowest, fitting, firstWrong, rowsAnswer, checkedOf}
+use Rattle.network.specs.Value.{listed}
 use Rattle.network.specs.Meaning.{Accepted, LowestWrong, Means}
 use Rattle.network.specs.declared.Network.{Network}
 use Rattle.network.specs.declared.Checked.{Checked}
@@ -190,6 +191,18 @@ wrong-back true false c k x j p q s e = absurd q
 wrong-back true true true k x j p q s e = ap Wrong e
 wrong-back true true false k x j p q s e = absurd s
 
+refused-view : (a b c : Bool) (k x j : ℕ) → cond a (cond b (cond c (Wrong k) does) (Refused 13)) (Refused x) ≡ Refused j → T a → T b → ⊥
+refused-view false b c k x j e p q = p
+refused-view true false c k x j e p q = q
+refused-view true true true k x j e p q = let z : _≡_ {A = ℕ} 0 1 = cc in omega arith
+refused-view true true false k x j e p q = let z : _≡_ {A = ℕ} 0 1 = cc in omega arith
+
+refused-back : (a b c : Bool) (k x : ℕ) → (T a → T b → ⊥)
+    → (j : ℕ) × (cond a (cond b (cond c (Wrong k) does) (Refused 13)) (Refused x) ≡ Refused j)
+refused-back false b c k x n = (x, refl)
+refused-back true false c k x n = (13, refl)
+refused-back true true c k x n = absurd (n tt tt)
+
 module _ (q : Request) (w : Network) where
   -- the network's lists
   abbrev net : Net
@@ -357,5 +370,13 @@ module _ (q : Request) (w : Network) where
               let h = p .1 .row in
               wrong-back unrefused (fitting q w) c (firstWrong q w) (refusalOf q) k (eq→eqb (refusalOf q) 0 (good-refusal q (p .0 .good)))
               (accepted-fitting (p .0)) (lt→ltb (firstWrong q w) (2 ^ (q .n)) (subst (λ (x : ℕ). x < 2 ^ (q .n)) (sym f) h)) f,
+        );
+        refused = (
+          λ (k, e) a.
+              refused-view unrefused (fitting q w) c (firstWrong q w) (refusalOf q) k e
+              (eq→eqb (refusalOf q) 0 (good-refusal q (a .good))) (accepted-fitting a),
+          λ n.
+              refused-back unrefused (fitting q w) c (firstWrong q w) (refusalOf q)
+              (λ p f. n (fitting-accepted l7 l16 (good-of p) f)),
         );
       }

@@ -3,7 +3,7 @@ use mathlib.Core.Path.{ap₂}
 use mathlib.Core.List.{List, _∷_, _++_}
 use Prim.Native.Nat.{ℕ}
 use borrow.Author.Needs.{needs}
-use Rattle.network_bytes.specs.Bytes.{by-entries}
+use Rattle.network_bytes.specs.Bytes.Laws.{by-entries}
 use Rattle.network_bytes.proofs.in_bytes.Statement.{statement}
 use Rattle.network_bytes.proofs.in_bytes.Tie as tie
 

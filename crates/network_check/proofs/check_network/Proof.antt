@@ -1,12 +1,13 @@
 -- Each answer is the definition's, by one law for each, and so has the meaning; what a callee requires is what the tests before it
 -- showed. Assumes nothing.
-use mathlib.Core.Path.{_≡_, sym, _∙_, subst}
+use mathlib.Core.Path.{_≡_, sym, ap, _∙_, subst}
 use mathlib.Core.Bool.{true}
 use borrow.Author.Needs.{needs}
 use borrow.Author.Tests.{not-true, not-false}
 use Rattle.request.specs.Numbers.{Good, refusalOf}
 use Rattle.request.specs.Numbers.Laws.{refusal-good}
-use Rattle.network.specs.Check.{fitting, checkedOf}
+use Rattle.network.specs.Check.{fitting, numberOf, valuesOf, checkedNumber, checkedValues, checkedOf}
+use Rattle.network.specs.Check.Numbers.{checked-number, checked-values}
 use Rattle.network.specs.Check.Laws.{checked-refused, checked-size, checked-literals, checked-labels, checked-rows, form-right}
 use Rattle.network.specs.Meaning.{Means}
 use Rattle.network.specs.Meaning.Laws.{checked-means}
@@ -14,10 +15,17 @@ use Rattle.network.specs.declared.Checked.{Checked}
 use Rattle.network_check.proofs.check_network.Statement.{statement}
 use Rattle.network_check.proofs.check_network.Tie as tie
 
--- an answer that is the definition's has the meaning; the two arrays are as long as their types say
+-- an answer that is the definition's has the meaning, the number and the values; the two arrays are as long as their types say
 answered : (c : tie.Start) {x : Checked} → x ≡ checkedOf (c .args .q) (c .args .w)
-    → (x ≡ checkedOf (c .args .q) (c .args .w)) × Means (c .args .q) (c .args .w) x
-answered c e = (e, subst (Means (c .args .q) (c .args .w)) (sym e) (checked-means _ _ (search needs) (search needs)))
+    → (x ≡ checkedOf (c .args .q) (c .args .w)) × (Means (c .args .q) (c .args .w) x
+    × ((numberOf x ≡ checkedNumber (c .args .q) (c .args .w)) × (valuesOf x ≡ checkedValues (c .args .q) (c .args .w))))
+answered c e = (
+  e,
+  (
+    subst (Means (c .args .q) (c .args .w)) (sym e) (checked-means _ _ (search needs) (search needs)),
+    (ap numberOf e ∙ checked-number _ _, ap valuesOf e ∙ checked-values _ _),
+  ),
+)
 
 -- past the first test the request is not refused, so it is good
 accepted : (c : tie.Else1) → refusalOf (c .before .before .args .q) ≡ 0

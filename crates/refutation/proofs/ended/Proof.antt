@@ -1,5 +1,5 @@
 -- The code 1 is "none". Assumes nothing.
-use Rattle.refutation.specs.Refutation.Laws.{outcome-none, outcome-refused}
+use Rattle.lrat.specs.Outcome.Laws.{outcome-none, outcome-refused}
 use Rattle.refutation.proofs.ended.Statement.{statement}
 use Rattle.refutation.proofs.ended.Tie as tie
 

@@ -5,7 +5,7 @@ use Prim.Native.Nat.{ℕ, _+_, _-_, _≤_}
 use native.Mathlib.Omega.{arith}
 use lib.ListN.{getD}
 use borrow.Author.Needs.{needs}
-use lib.IntN.{pos}
+use lib.IntN as Z
 use Rattle.lrat.specs.Words.{literalOf}
 use Rattle.lrat.specs.Bytes.{storeFrom, wordOf}
 use Rattle.lrat.specs.Bytes.Laws.{value-most}
@@ -46,7 +46,7 @@ add-stored c = search needs
 stored-requires : tie.Need-stored-requires Inv-loop μ-loop
 stored-requires c κs = let s = c .before .before .before in
     let i = c .before .loop .i in
-    let w = wordOf (getD (s .args .literals .now) (s .args .from + i) (pos 0)) in
+    let w = wordOf (getD (s .args .literals .now) (s .args .from + i) (Z.pos 0)) in
     (search needs, omega (arith, s .pre .0 .1, scan-var (c .before .loop .inv .1) (w .minus) (w .value) (store-more (s .args .n) (s .args .literals .now) (s .args .from) i w refl (search needs))))
 
 add-k : tie.Need-add-k Inv-loop μ-loop

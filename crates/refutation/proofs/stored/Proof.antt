@@ -5,7 +5,8 @@ use lib.ListN.{getD}
 use borrow.Author.Needs.{needs}
 use mir.Syntax.{w32}
 use mir.Val.{toZ, ofZ}
-use lib.IntN.{ℤ, pos}
+use lib.IntN as Z
+use lib.IntN.{ℤ}
 use Rattle.prelude.specs.Signed.{isNegative, variable}
 use Rattle.numeral.specs.Number.{word}
 use Rattle.lrat.specs.Rules.{minusOf}
@@ -34,7 +35,7 @@ wide-requires c κs = search needs
 
 returns : tie.Need-returns
 returns c = let a = c .before .before .before .before .args in
-    let x : ℤ = getD (a .literals .now) (a .k) (pos 0) in
+    let x : ℤ = getD (a .literals .now) (a .k) (Z.pos 0) in
     let y : ℤ = toZ w32 (ofZ w32 x) in
     let e : y ≡ x = search needs in
     word-is x y _ _ (c .before .before .sign-of .ensures) (c .wide .ensures .0 ∙ c .before .variable-of .ensures) e

@@ -1,31 +1,24 @@
 -- Each refusal before the lines, and a check that reached them. Assumes nothing.
 use mathlib.Core.Path.{_≡_, sym, ap, _∙_}
 use mathlib.Core.List.{List, _++_}
+use mathlib.Core.Logic.{⊎-elim}
 use Prim.Native.Nat.{ℕ, _+_, _≤_, _<_}
 use native.Mathlib.Omega.{arith}
 use lib.IntN.{ℤ}
 use lib.ListN.{length, drop}
 use borrow.Author.Tests.{eq-eqb, ne-eqb, le-leb, lt-leb, lt-ltb, le-ltb}
-use Rattle.prelude.specs.Blocks.{flatten, pairsFrom}
-use Rattle.prelude.specs.Written.{written}
+use Rattle.prelude.specs.Tests.{eq?}
 use Rattle.cnf.specs.Cnf.{Formula}
 use Rattle.request.specs.declared.Request.{Request}
-use Rattle.formula.specs.Formula.{formulaOf}
-use Rattle.formula.specs.Count.{variableCount}
-use Rattle.store.specs.Store.{signs, storeRefusal}
+use Rattle.store.specs.Store.{storedFormula, storedVariables, storeRefusal, storedLiterals, storedPairs}
 use Rattle.lrat.specs.Bytes.{zeros}
 use Rattle.lrat.specs.Check.{Left, linesOf}
-use Rattle.refutation.specs.declared.Outcome.{Outcome}
-use Rattle.refutation.specs.declared.Outcome.the-variants.{None, Refused}
-use Rattle.refutation.specs.Refutation.{Lent, lent, refusalBefore, outcomeOf, linesFor, checkAnswer, checkLeaves}
-
-pub outcome-none : (code : ℕ) → code ≡ 1 → None ≡ outcomeOf code
-unfolding outcomeOf
-outcome-none code e = rw (eq-eqb code 1 e)
-
-pub outcome-refused : (code : ℕ) → (code ≡ 1 → ⊥) → Refused code ≡ outcomeOf code
-unfolding outcomeOf
-outcome-refused code d = rw (ne-eqb code 1 d)
+use Rattle.lrat.specs.Check.Laws.{lines-coded}
+use Rattle.lrat.specs.Outcome.{numberOf, valuesOf, outcomeOf}
+use Rattle.lrat.specs.Outcome.Laws.{outcome-number, refused-numbered}
+use Rattle.lrat.specs.declared.Outcome.{Outcome}
+use Rattle.lrat.specs.declared.Outcome.the-variants.{Refused}
+use Rattle.refutation.specs.Refutation.{Lent, lent, refusalBefore, linesFor, checkNumber, checkValues, checkAnswer, checkLeaves}
 
 module _ (q : Request) (text : List ℕ) (s : Lent) where
   -- what a refusal answers and leaves
@@ -45,37 +38,68 @@ module _ (q : Request) (text : List ℕ) (s : Lent) where
   stops-store k e d = stops k (rw (ne-eqb (storeRefusal q (length (s .literals)) (length (s .pairs))) 0 (λ z. d (sym e ∙ z))) e) d
 
   module _ (stored : storeRefusal q (length (s .literals)) (length (s .pairs)) ≡ 0) where
-    pub stops-values : length (s .values) ≤ variableCount q → Stops 14
+    pub stops-values : length (s .values) ≤ storedVariables q → Stops 14
     unfolding refusalBefore
-    stops-values h = stops 14 (rw (eq-eqb (storeRefusal q (length (s .literals)) (length (s .pairs))) 0 stored, le-leb (length (s .values)) (variableCount q) h)) (λ z. omega arith)
+    stops-values h = stops 14 (rw (eq-eqb (storeRefusal q (length (s .literals)) (length (s .pairs))) 0 stored, le-leb (length (s .values)) (storedVariables q) h)) (λ z. omega arith)
 
-    module _ (enough : variableCount q < length (s .values)) where
+    module _ (enough : storedVariables q < length (s .values)) where
       pub stops-long : 16777215 < length text → Stops 15
       unfolding refusalBefore
       stops-long h =
           stops 15
-          (rw (eq-eqb (storeRefusal q (length (s .literals)) (length (s .pairs))) 0 stored, lt-leb (length (s .values)) (variableCount q) enough, lt-ltb 16777215 (length text) h))
+          (rw (eq-eqb (storeRefusal q (length (s .literals)) (length (s .pairs))) 0 stored, lt-leb (length (s .values)) (storedVariables q) enough, lt-ltb 16777215 (length text) h))
           (λ z. omega arith)
 
       module _ (short : length text ≤ 16777215) where
         pub before-none : refusalBefore q (length text) s ≡ 0
         unfolding refusalBefore
         before-none =
-            rw (eq-eqb (storeRefusal q (length (s .literals)) (length (s .pairs))) 0 stored, lt-leb (length (s .values)) (variableCount q) enough, le-ltb 16777215 (length text) short)
+            rw (eq-eqb (storeRefusal q (length (s .literals)) (length (s .pairs))) 0 stored, lt-leb (length (s .values)) (storedVariables q) enough, le-ltb 16777215 (length text) short)
 
         -- the lines over the formula that the store holds
-        pub goes-answer : (F : Formula) → F ≡ formulaOf q → (l : Left) → l ≡ linesOf F text (variableCount q) (s .added)
+        pub goes-answer : (F : Formula) → F ≡ storedFormula q → (l : Left) → l ≡ linesOf F text (storedVariables q) (s .added)
             → (o : Outcome) → o ≡ outcomeOf (l .code) → record { outcome = o; count = l .a } ≡ checkAnswer q text s
         unfolding checkAnswer linesFor
         goes-answer F f l e o p =
-            let z : l ≡ linesOf (formulaOf q) text (variableCount q) (s .added) = e ∙ ap (λ (G : Formula). linesOf G text (variableCount q) (s .added)) f in
+            let z : l ≡ linesOf (storedFormula q) text (storedVariables q) (s .added) = e ∙ ap (λ (G : Formula). linesOf G text (storedVariables q) (s .added)) f in
             rw (eq-eqb (refusalBefore q (length text) s) 0 before-none, ← z, p)
 
-        pub goes-slices : (F : Formula) → F ≡ formulaOf q → (l : Left) → l ≡ linesOf F text (variableCount q) (s .added)
-            → (literals : List ℤ) (pairs values : List ℕ) → literals ≡ written (s .literals) 0 (signs (flatten (formulaOf q)))
-            → pairs ≡ written (s .pairs) 0 (pairsFrom 0 (formulaOf q)) → values ≡ zeros (variableCount q + 1)
-            → lent literals pairs (l .added) (values ++ drop (variableCount q + 1) (s .values)) ≡ checkLeaves q text s
+        pub goes-slices : (F : Formula) → F ≡ storedFormula q → (l : Left) → l ≡ linesOf F text (storedVariables q) (s .added)
+            → (literals : List ℤ) (pairs values : List ℕ) → literals ≡ storedLiterals q (length (s .pairs)) (s .literals)
+            → pairs ≡ storedPairs q (length (s .literals)) (s .pairs) → values ≡ zeros (storedVariables q + 1)
+            → lent literals pairs (l .added) (values ++ drop (storedVariables q + 1) (s .values)) ≡ checkLeaves q text s
         unfolding checkLeaves linesFor
         goes-slices F f l e literals pairs values a b c =
-            let z : l ≡ linesOf (formulaOf q) text (variableCount q) (s .added) = e ∙ ap (λ (G : Formula). linesOf G text (variableCount q) (s .added)) f in
+            let z : l ≡ linesOf (storedFormula q) text (storedVariables q) (s .added) = e ∙ ap (λ (G : Formula). linesOf G text (storedVariables q) (s .added)) f in
             rw (eq-eqb (refusalBefore q (length text) s) 0 before-none, ← z, a, b, c)
+
+  -- the number of the answer is the rule's
+  pub answer-number : numberOf (checkAnswer q text s) ≡ checkNumber q text s
+  unfolding checkAnswer checkNumber
+  answer-number =
+      ⊎-elim
+      (λ (z : refusalBefore q (length text) s ≡ 0). rw (eq-eqb (refusalBefore q (length text) s) 0 z) (outcome-number (linesFor q text (s .added) .code)))
+      (λ (d : refusalBefore q (length text) s ≡ 0 → ⊥). rw (ne-eqb (refusalBefore q (length text) s) 0 d))
+      (eq? (refusalBefore q (length text) s) 0)
+
+  -- and so are the values
+  pub answer-values : valuesOf (checkAnswer q text s) ≡ checkValues q text s
+  unfolding checkAnswer checkValues
+  answer-values =
+      ⊎-elim
+      (λ (z : refusalBefore q (length text) s ≡ 0). rw (eq-eqb (refusalBefore q (length text) s) 0 z))
+      (λ (d : refusalBefore q (length text) s ≡ 0 → ⊥). rw (ne-eqb (refusalBefore q (length text) s) 0 d))
+      (eq? (refusalBefore q (length text) s) 0)
+
+  -- a refusal has a number other than 0
+  pub answer-numbered : checkAnswer q text s .outcome ≡ Refused 0 → ⊥
+  unfolding checkAnswer linesFor
+  answer-numbered e =
+      ⊎-elim
+      (λ (z : refusalBefore q (length text) s ≡ 0).
+      refused-numbered (linesFor q text (s .added) .code) (lines-coded (storedFormula q) text (storedVariables q) (s .added))
+      (rw (eq-eqb (refusalBefore q (length text) s) 0 z) at e))
+      (λ (d : refusalBefore q (length text) s ≡ 0 → ⊥).
+      let f : Refused (refusalBefore q (length text) s) ≡ Refused 0 = (rw (ne-eqb (refusalBefore q (length text) s) 0 d) at e) in
+      d (cc))
+      (eq? (refusalBefore q (length text) s) 0)

@@ -1,5 +1,6 @@
--- "none" means that the request's formula is unsatisfiable. Assumes nothing.
-use mathlib.Core.Path.{_≡_}
+-- "none" means that the request's formula is unsatisfiable, and that every network that does the job has more than r switches.
+-- Assumes nothing.
+use mathlib.Core.Path.{_≡_, refl, ap, _∙_}
 use mathlib.Core.List.{List}
 use mathlib.Core.Logic.{⊎-elim}
 use Prim.Native.Nat.{ℕ}
@@ -9,42 +10,56 @@ use borrow.Author.Tests.{eq-eqb, ne-eqb}
 use Rattle.prelude.specs.Tests.{eq?}
 use Rattle.cnf.specs.Cnf.{Satisfiable}
 use Rattle.request.specs.declared.Request.{Request}
-use Rattle.formula.specs.Formula.{formulaOf}
-use Rattle.formula.specs.Count.{variableCount}
-use Rattle.lrat.specs.Check.Laws.{lines-coded}
+use Rattle.network.specs.Least.{MoreThan}
+use Rattle.store.specs.Store.{storedFormula, storedVariables, storeRefusal}
+use Rattle.store.specs.Store.Laws.{none-taken}
 use Rattle.lrat.specs.Check.Sound.{none-sound}
-use Rattle.refutation.specs.declared.Outcome.the-variants.{None, Refused}
-use Rattle.refutation.specs.Refutation.{Lent, outcomeNumber, refusalBefore, outcomeOf, linesFor, checkAnswer}
+use Rattle.lrat.specs.Outcome.{outcomeNumber}
+use Rattle.lrat.specs.Outcome.Laws.{none-code}
+use Rattle.lrat.specs.declared.Outcome.{Outcome}
+use Rattle.lrat.specs.declared.Outcome.the-variants.{None, Refused}
+use Rattle.encoding.specs.Least.{unsat-least}
+use Rattle.refutation.specs.Refutation.{Lent, refusalBefore, linesFor, checkNumber, checkAnswer}
+use Rattle.refutation.specs.Refutation.Laws.{answer-number, answer-numbered}
 
--- only the code 1 gives "none"
-none-code : (code : ℕ) → outcomeOf code ≡ None → code ≡ 1
-unfolding outcomeOf
-none-code code e =
-    ⊎-elim (λ (z : code ≡ 1). z) (λ (d : code ≡ 1 → ⊥). absurd (let f : Refused code ≡ None = (rw (ne-eqb code 1 d) at e) in let z : _≡_ {A = ℕ} 0 1 = cc in omega arith)) (eq? code 1)
+-- an outcome with the number 0 is "none"
+outcome-zero : (o : Outcome) → (o ≡ Refused 0 → ⊥) → outcomeNumber o ≡ 0 → o ≡ None
+outcome-zero None d e = refl
+outcome-zero (Refused x) d e = absurd (d (ap Refused e))
 
-pub none-unsatisfiable : (q : Request) (text : List ℕ) (s : Lent) → checkAnswer q text s .outcome ≡ None → Satisfiable (formulaOf q) → ⊥
-unfolding checkAnswer linesFor
-none-unsatisfiable q text s e =
-    ⊎-elim
-    (λ (z : refusalBefore q (length text) s ≡ 0).
-    none-sound (formulaOf q) text (variableCount q) (s .added)
-    (none-code (linesFor q text (s .added) .code) (rw (eq-eqb (refusalBefore q (length text) s) 0 z) at e)))
-    (λ (d : refusalBefore q (length text) s ≡ 0 → ⊥).
-    absurd (let f : Refused (refusalBefore q (length text) s) ≡ None = (rw (ne-eqb (refusalBefore q (length text) s) 0 d) at e) in let z : _≡_ {A = ℕ} 0 1 = cc in omega arith))
-    (eq? (refusalBefore q (length text) s) 0)
+module _ (q : Request) (text : List ℕ) (s : Lent) where
+  -- where a check ends in "none", nothing was refused before the lines, and they ended in the code 1
+  none-lines : checkAnswer q text s .outcome ≡ None → (refusalBefore q (length text) s ≡ 0) × (linesFor q text (s .added) .code ≡ 1)
+  unfolding checkAnswer
+  none-lines e =
+      ⊎-elim
+      (λ (z : refusalBefore q (length text) s ≡ 0).
+      (z, none-code (linesFor q text (s .added) .code) (rw (eq-eqb (refusalBefore q (length text) s) 0 z) at e)))
+      (λ (d : refusalBefore q (length text) s ≡ 0 → ⊥).
+      absurd
+      (let f : Refused (refusalBefore q (length text) s) ≡ None = (rw (ne-eqb (refusalBefore q (length text) s) 0 d) at e) in
+      let z : _≡_ {A = ℕ} 0 1 = cc in omega arith))
+      (eq? (refusalBefore q (length text) s) 0)
 
--- the number 0 is that of "none" alone
-outcome-zero : (code : ℕ) → (code ≡ 0 → ⊥) → outcomeNumber (outcomeOf code) ≡ 0 → outcomeOf code ≡ None
-unfolding outcomeOf
-outcome-zero code d e =
-    ⊎-elim (λ (z : code ≡ 1). rw (eq-eqb code 1 z)) (λ (n : code ≡ 1 → ⊥). absurd (d (rw (ne-eqb code 1 n) at e))) (eq? code 1)
+  pub none-unsatisfiable : checkAnswer q text s .outcome ≡ None → Satisfiable (storedFormula q) → ⊥
+  unfolding linesFor
+  none-unsatisfiable e = none-sound (storedFormula q) text (storedVariables q) (s .added) (none-lines e .1)
 
-pub number-none : (q : Request) (text : List ℕ) (s : Lent) → outcomeNumber (checkAnswer q text s .outcome) ≡ 0 → checkAnswer q text s .outcome ≡ None
-unfolding checkAnswer linesFor
-number-none q text s e =
-    ⊎-elim
-    (λ (z : refusalBefore q (length text) s ≡ 0).
-    rw (eq-eqb (refusalBefore q (length text) s) 0 z)
-    (outcome-zero (linesFor q text (s .added) .code) (lines-coded (formulaOf q) text (variableCount q) (s .added)) (rw (eq-eqb (refusalBefore q (length text) s) 0 z) at e)))
-    (λ (d : refusalBefore q (length text) s ≡ 0 → ⊥). absurd (d (rw (ne-eqb (refusalBefore q (length text) s) 0 d) at e)))
-    (eq? (refusalBefore q (length text) s) 0)
+  -- the store refused nothing
+  before-store : refusalBefore q (length text) s ≡ 0 → storeRefusal q (length (s .literals)) (length (s .pairs)) ≡ 0
+  unfolding refusalBefore
+  before-store e =
+      ⊎-elim (λ (z : storeRefusal q (length (s .literals)) (length (s .pairs)) ≡ 0). z)
+      (λ (d : storeRefusal q (length (s .literals)) (length (s .pairs)) ≡ 0 → ⊥).
+      rw (ne-eqb (storeRefusal q (length (s .literals)) (length (s .pairs))) 0 d) at e)
+      (eq? (storeRefusal q (length (s .literals)) (length (s .pairs))) 0)
+
+  -- every network of any number of switches that does the job has more than r
+  pub none-more : checkAnswer q text s .outcome ≡ None → MoreThan q
+  none-more e =
+      unsat-least q (none-taken q (length (s .literals)) (length (s .pairs)) (before-store (none-lines e .0)) .request)
+      (none-unsatisfiable e)
+
+  -- so the number 0 is that of "none" alone
+  pub number-none : checkNumber q text s ≡ 0 → checkAnswer q text s .outcome ≡ None
+  number-none e = outcome-zero (checkAnswer q text s .outcome) (answer-numbered q text s) (answer-number q text s ∙ e)

@@ -1,9 +1,20 @@
 -- By the request's reading, and then by the verdict. Assumes nothing.
 use Rattle.reporting.specs.Report.Laws.{report-refused, report-settled, leaves-refused, leaves-settled}
-use mathlib.Core.Path.{sym, _∙_}
+use Rattle.reporting.specs.Report.Says.{report-least}
+use Rattle.reporting.specs.Report.{reportText, reportLeaves, BeginsLeast, SaysLeast}
+use Rattle.refutation.specs.Refutation.{Lent}
+use mathlib.Core.Path.{_≡_, sym, _∙_}
+use mathlib.Core.List.{List}
+use Prim.Native.Nat.{ℕ}
 use borrow.Author.Needs.{needs}
 use Rattle.reporting.proofs.report.Statement.{statement}
 use Rattle.reporting.proofs.report.Tie as tie
+
+-- a text and slices that are the definition's; what a text that begins with "least" says besides
+answered : (request answer refutation : List ℕ) (s : Lent) {text : List ℕ} {l : Lent}
+    → text ≡ reportText request answer refutation s → l ≡ reportLeaves request answer refutation s
+    → (text ≡ reportText request answer refutation s) × ((l ≡ reportLeaves request answer refutation s) × (BeginsLeast text → SaysLeast request text))
+answered request answer refutation s {text} e f = (e, (f, report-least request answer refutation s text e))
 
 read-request-requires : tie.Need-read-request-requires
 read-request-requires c κs = search needs
@@ -47,7 +58,7 @@ refused-text-requires-2 c κs = search needs
 returns : tie.Need-returns
 returns c = let k = c .before .before in
     let e = sym (k .number .given .1) ∙ k .before .before .read-request .ensures .0 in
-    (c .refused-text .ensures .0 ∙ report-refused _ _ _ _ _ e, leaves-refused _ _ _ _ _ e)
+    answered _ _ _ _ (c .refused-text .ensures .0 ∙ report-refused _ _ _ _ _ e) (leaves-refused _ _ _ _ _ e)
 
 -- settling, and the request that it had
 abbrev asked : tie.After-settle → tie.After-q
@@ -68,7 +79,7 @@ same-length-4 c = search needs
 returns-2 : tie.Need-returns-2
 returns-2 c = let t = c .before in let k = t .before .before .before .before .before .before .before .before .before in
     let e = sym (asked k .q .given .1) ∙ asked k .before .before .read-request .ensures .0 in
-    (c .least-text .ensures .0 ∙ report-settled _ _ _ _ _ e _ (k .settle .ensures .0) _ (t .enum-told .given .1), leaves-settled _ _ _ _ _ e _ (k .settle .ensures .1 .0))
+    answered _ _ _ _ (c .least-text .ensures .0 ∙ report-settled _ _ _ _ _ e _ (k .settle .ensures .0) _ (t .enum-told .given .1)) (leaves-settled _ _ _ _ _ e _ (k .settle .ensures .1 .0))
 
 same-length-5 : tie.Need-same-length-5
 same-length-5 c = search needs
@@ -85,7 +96,7 @@ same-length-8 c = search needs
 returns-3 : tie.Need-returns-3
 returns-3 c = let t = c .before .before in let k = t .before .before .before .before .before .before .before .before .before in
     let e = sym (asked k .q .given .1) ∙ asked k .before .before .read-request .ensures .0 in
-    (c .works-text .ensures .0 ∙ report-settled _ _ _ _ _ e _ (k .settle .ensures .0) _ (t .verdict .given .1), leaves-settled _ _ _ _ _ e _ (k .settle .ensures .1 .0))
+    answered _ _ _ _ (c .works-text .ensures .0 ∙ report-settled _ _ _ _ _ e _ (k .settle .ensures .0) _ (t .verdict .given .1)) (leaves-settled _ _ _ _ _ e _ (k .settle .ensures .1 .0))
 
 same-length-9 : tie.Need-same-length-9
 same-length-9 c = search needs
@@ -102,7 +113,7 @@ same-length-12 c = search needs
 returns-4 : tie.Need-returns-4
 returns-4 c = let t = c .before .before in let k = t .before .before .before .before .before .before .before .before .before in
     let e = sym (asked k .q .given .1) ∙ asked k .before .before .read-request .ensures .0 in
-    (c .fails-text .ensures .0 ∙ report-settled _ _ _ _ _ e _ (k .settle .ensures .0) _ (t .verdict2 .given .1), leaves-settled _ _ _ _ _ e _ (k .settle .ensures .1 .0))
+    answered _ _ _ _ (c .fails-text .ensures .0 ∙ report-settled _ _ _ _ _ e _ (k .settle .ensures .0) _ (t .verdict2 .given .1)) (leaves-settled _ _ _ _ _ e _ (k .settle .ensures .1 .0))
 
 same-length-13 : tie.Need-same-length-13
 same-length-13 c = search needs
@@ -119,7 +130,7 @@ same-length-16 c = search needs
 returns-5 : tie.Need-returns-5
 returns-5 c = let t = c .before .before in let k = t .before .before .before .before .before .before .before .before .before in
     let e = sym (asked k .q .given .1) ∙ asked k .before .before .read-request .ensures .0 in
-    (c .refused-text2 .ensures .0 ∙ report-settled _ _ _ _ _ e _ (k .settle .ensures .0) _ (t .verdict3 .given .1), leaves-settled _ _ _ _ _ e _ (k .settle .ensures .1 .0))
+    answered _ _ _ _ (c .refused-text2 .ensures .0 ∙ report-settled _ _ _ _ _ e _ (k .settle .ensures .0) _ (t .verdict3 .given .1)) (leaves-settled _ _ _ _ _ e _ (k .settle .ensures .1 .0))
 
 pub report-spec : {M : Type 1} → statement M
 report-spec =

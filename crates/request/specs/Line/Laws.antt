@@ -1,5 +1,5 @@
 -- Laws of a request as a line: its runs of digits, its table, and what each branch of the reading answers. Assumes nothing.
-use mathlib.Core.Path.{_≡_, sym, ap, _∙_, subst}
+use mathlib.Core.Path.{_≡_, refl, sym, ap, _∙_, subst}
 use mathlib.Core.Bool.{Bool, true, false, not, _&&_, _||_, cond}
 use mathlib.Core.List.{List, [], _∷_}
 use mathlib.Core.Logic.{⊎-elim}
@@ -18,7 +18,7 @@ use Rattle.prelude.specs.Lists.Laws.{all-in, all-out}
 use Rattle.request.specs.declared.Request.{Request}
 use Rattle.request.specs.declared.Reading.{Reading}
 use Rattle.request.specs.declared.Reading.the-variants.{Taken, Refused}
-use Rattle.request.specs.Line.{numberOf, valuesOf, digit, digits, runEnd, endedBy, single, isTable, tableAt, numbersRefusal, requestAt, end1, end2, end3, end4, lineForm, requestNumber, requestIn, requestValues, requestOf, numbersOf, Run, Digits, Bits, Ends}
+use Rattle.request.specs.Line.{numberOf, valuesOf, asked, digit, digits, runEnd, endedBy, single, isTable, tableAt, numbersRefusal, requestAt, end1, end2, end3, end4, lineForm, requestNumber, requestIn, requestValues, requestOf, numbersOf, Run, Digits, Bits, Ends}
 use Rattle.request.specs.Numbers.{Good}
 
 -- a byte of a digit's numbers is a digit
@@ -439,3 +439,8 @@ request-good s q e =
     let t : Taken (requestIn s) ≡ Taken q = rw z at e in
     let is-q : requestIn s ≡ q = cc in
     subst Good is-q (numbers-taken s (end1 s) (end2 s) (end3 s) (end4 s) (before-refusal (lineForm s) 0 _ z))
+
+-- the values of a request that was read, handed over in their order, make that request
+pub asked-read : (q : Request) (a b c d : ℕ)
+    → asked (getD (valuesOf (Taken q)) 0 a) (getD (valuesOf (Taken q)) 1 b) (getD (valuesOf (Taken q)) 2 c) (getD (valuesOf (Taken q)) 3 d) ≡ q
+asked-read q a b c d = refl

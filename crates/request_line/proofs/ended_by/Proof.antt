@@ -1,4 +1,4 @@
--- `request::read::ended_by` meets its contract. Each return is one law of the test. Assumes nothing.
+-- `request_line::ended_by` meets its contract. Each return is one law of the test. Assumes nothing.
 use mathlib.Core.Path.{sym}
 use native.Mathlib.Omega.{arith}
 use borrow.Author.Needs.{needs}

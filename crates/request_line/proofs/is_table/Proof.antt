@@ -1,4 +1,4 @@
--- `request::read::is_table` meets its contract. The invariant: every byte before i is 0 or 1. Assumes nothing.
+-- `request_line::is_table` meets its contract. The invariant: every byte before i is 0 or 1. Assumes nothing.
 use mathlib.Core.Path.{_≡_, sym, _∙_, subst}
 use Prim.Native.Nat.{_-_, _^_, _≤_}
 use native.Mathlib.Omega.{arith}

@@ -1,4 +1,4 @@
--- `request::read::numbers_at` meets its contract. Each return is one law of the numbers, from what the calls before it ensure. Assumes nothing.
+-- `request_line::numbers_at` meets its contract. Each return is one law of the numbers, from what the calls before it ensure. Assumes nothing.
 use mathlib.Core.Path.{_≡_, sym, _∙_}
 use mathlib.Core.Bool.{true}
 use Prim.Native.Nat.{_+_}

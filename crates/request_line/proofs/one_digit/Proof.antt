@@ -1,4 +1,4 @@
--- `request::read::one_digit` meets its contract. A run of one character is a digit, so 48 can be taken from it. Assumes nothing.
+-- `request_line::one_digit` meets its contract. A run of one character is a digit, so 48 can be taken from it. Assumes nothing.
 use mathlib.Core.Path.{sym}
 use native.Mathlib.Omega.{arith}
 use borrow.Author.Needs.{needs}

@@ -1,4 +1,4 @@
--- `request::read::run_end` meets its contract. The invariant: the run from the start ends where the run from i ends. Assumes nothing.
+-- `request_line::run_end` meets its contract. The invariant: the run from the start ends where the run from i ends. Assumes nothing.
 use mathlib.Core.Path.{_≡_, refl, sym, _∙_}
 use Prim.Native.Nat.{_-_}
 use native.Mathlib.Omega.{arith}

@@ -1,4 +1,4 @@
--- `request::read::table_value` meets its contract. The invariant: the value is the table of the characters from i to the end, which has at most 16
+-- `request_line::table_value` meets its contract. The invariant: the value is the table of the characters from i to the end, which has at most 16
 -- bits; each turn puts one character more in front. Assumes nothing.
 use mathlib.Core.Path.{_≡_, sym, ap, _∙_, subst}
 use Prim.Native.Nat.{ℕ, _-_, _≤_, _<_}

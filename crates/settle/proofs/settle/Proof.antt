@@ -12,12 +12,14 @@ use Rattle.network.specs.declared.Checked.the-variants.{Does}
 use Rattle.network.specs.Check.{checkedOf}
 use Rattle.answer.specs.declared.Decoded.{Decoded}
 use Rattle.answer.specs.Reading.{readingOf}
-use Rattle.refutation.specs.declared.Checked.{Checked as Ended}
+use Rattle.lrat.specs.declared.Checked.{Checked as Ended}
 use Rattle.refutation.specs.Refutation.{Lent, lent, checkAnswer, checkLeaves}
 use Rattle.settle.specs.declared.Settlement.{Settlement}
 use Rattle.settle.specs.declared.Verdict.{Verdict}
 use Rattle.settle.specs.declared.Verdict.the-variants.{Least}
-use Rattle.settle.specs.Settle.{smaller, outcomeVerdict, verdictBelow, refusedWith, judged, settlement, leavesBelow, leftBy, settleLeaves, LeastFor}
+use Rattle.network.specs.Least.{LeastFor}
+use Rattle.settle.specs.Settle.{verdictNumber, verdictValues, smaller, outcomeVerdict, verdictBelow, refusedWith, judged, settleNumber, settleValues, settlement, leavesBelow, leftBy, settleLeaves}
+use Rattle.settle.specs.Settle.Numbers.{settle-number, settle-values}
 use Rattle.settle.specs.Settle.Laws.{Settles, settles-refused, settles-judged, below-zero, below-more}
 use Rattle.settle.specs.Settle.Meaning.{least-for}
 use Rattle.settle.proofs.settle.Statement.{statement}
@@ -31,15 +33,23 @@ module _ (q : Request) (answer refutation : List ℕ) (literals : List ℤ) (pai
   abbrev Answer : Settlement → Lent → Type 0
   Answer x l =
       (x ≡ settlement q answer refutation before)
-      × ((l ≡ settleLeaves q answer refutation before) × (x .verdict ≡ Least → LeastFor q (x .network)))
+      × ((l ≡ settleLeaves q answer refutation before) × ((x .verdict ≡ Least → LeastFor q (x .network))
+      × ((verdictNumber (x .verdict) ≡ settleNumber q answer)
+      × (verdictValues (q .r) (x .verdict) ≡ settleValues q answer refutation before))))
 
   answered : (x : Settlement) (l : Lent) → Settles q answer refutation before x l → Answer x l
   answered x l s = (
     s .says,
     (
       s .leaves,
-      λ e. subst (λ (y : Settlement). LeastFor q (y .network)) (sym (s .says))
-          (least-for q answer refutation before (ap (λ (y : Settlement). y .verdict) (sym (s .says)) ∙ e)),
+      (
+        λ e. subst (λ (y : Settlement). LeastFor q (y .network)) (sym (s .says))
+            (least-for q answer refutation before (ap (λ (y : Settlement). y .verdict) (sym (s .says)) ∙ e)),
+        (
+          ap (λ (y : Settlement). verdictNumber (y .verdict)) (s .says) ∙ settle-number q answer refutation before,
+          ap (λ (y : Settlement). verdictValues (q .r) (y .verdict)) (s .says) ∙ settle-values q answer refutation before,
+        ),
+      ),
     ),
   )
 

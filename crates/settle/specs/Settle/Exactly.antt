@@ -7,18 +7,17 @@ use mathlib.Core.Logic.{_⊎_, inl, inr, ⊎-elim, _↔_}
 use Prim.Native.Nat.{ℕ, _^_}
 use native.Mathlib.Omega.{arith}
 use lib.Dec.{ltb}
-use borrow.Author.Tests.{eq-eqb}
 use Rattle.prelude.specs.Tests.{eq?}
 use Rattle.request.specs.declared.Request.{Request}
-use Rattle.request.specs.Numbers.{refusalOf}
 use Rattle.network.specs.declared.Network.{Network}
 use Rattle.network.specs.declared.Checked.{Checked}
 use Rattle.network.specs.declared.Checked.the-variants.{Does as does, Wrong, Refused as formRefused}
 use Rattle.network.specs.Check.{firstWrong, rowsAnswer, checkedOf}
+use Rattle.network.specs.Check.Laws.{checked-rows}
 use Rattle.answer.specs.Reading.{readingOf}
 use Rattle.answer.specs.Reading.Meaning.{assignmentIn, taken-request, taken-describes, described-fits}
-use Rattle.refutation.specs.declared.Outcome.{Outcome}
-use Rattle.refutation.specs.declared.Outcome.the-variants.{None, Refused as outcomeRefused}
+use Rattle.lrat.specs.declared.Outcome.{Outcome}
+use Rattle.lrat.specs.declared.Outcome.the-variants.{None, Refused as outcomeRefused}
 use Rattle.refutation.specs.Refutation.{Lent, checkAnswer}
 use Rattle.settle.specs.declared.Settlement.{Settlement}
 use Rattle.settle.specs.declared.Verdict.{Verdict}
@@ -118,21 +117,23 @@ module _ (q : Request) (refutation : List ℕ) (s : Lent) where
       ))
       (eq? (q .r) 0)
 
--- ---- the check refuses no decoded network
+-- ---- the check refuses no decoded network: it is answered by its rows
 rows-unrefused : (b : Bool) (k x : ℕ) → cond b (Wrong k) does ≡ formRefused x → ⊥
 rows-unrefused true k x e = let z : _≡_ {A = ℕ} 0 1 = cc in omega arith
 rows-unrefused false k x e = let z : _≡_ {A = ℕ} 0 1 = cc in omega arith
 
+pub decoded-rows : (q : Request) (answer : List ℕ) → readingOf q answer .refusal ≡ 0
+    → rowsAnswer q (readingOf q answer .network) ≡ checkedOf q (readingOf q answer .network)
+decoded-rows q answer taken =
+    checked-rows q (readingOf q answer .network) (taken-request q answer taken)
+    (described-fits q (assignmentIn q answer) (readingOf q answer .network) (taken-describes q answer taken))
+
 pub never-refused : (q : Request) (answer : List ℕ) → readingOf q answer .refusal ≡ 0
     → (x : ℕ) → checkedOf q (readingOf q answer .network) ≡ formRefused x → ⊥
-unfolding checkedOf rowsAnswer
+unfolding rowsAnswer
 never-refused q answer taken x e =
     let w : Network = readingOf q answer .network in
-    rows-unrefused (ltb (firstWrong q w) (2 ^ (q .n))) (firstWrong q w) x
-    (rw (
-      eq-eqb (refusalOf q) 0 (taken-request q answer taken),
-      described-fits q (assignmentIn q answer) (readingOf q answer .network) (taken-describes q answer taken),
-    ) at e)
+    rows-unrefused (ltb (firstWrong q w) (2 ^ (q .n))) (firstWrong q w) x (decoded-rows q answer taken ∙ e)
 
 -- ---- the four verdicts
 module _ (q : Request) (answer refutation : List ℕ) (s : Lent) where

@@ -8,23 +8,23 @@ use lib.ListN.{length, length-append, length-replicate}
 use Rattle.prelude.specs.Lists.Laws.{length-tab}
 use Rattle.cnf.specs.Cnf.{Assignment}
 use Rattle.request.specs.declared.Request.{Request}
-use Rattle.request.specs.Numbers.{Good, refusalOf}
-use Rattle.request.specs.Numbers.Laws.{refusal-good, good-refusal}
+use Rattle.request.specs.Numbers.Laws.{refusal-good}
 use Rattle.network.specs.declared.Network.{Network}
 use Rattle.network.specs.declared.Checked.the-variants.{Does as does}
 use Rattle.network.specs.Networks.{Net, switches, FormedAs, Formed, Does}
-use Rattle.network.specs.Check.{listed, checkedOf}
+use Rattle.network.specs.Check.{checkedOf}
+use Rattle.network.specs.Value.{listed}
+use Rattle.network.specs.Least.{LeastFor}
 use Rattle.network.specs.Meaning.{Means}
 use Rattle.network.specs.Meaning.Laws.{checked-means}
 use Rattle.answer.specs.Decode.{decoded}
 use Rattle.answer.specs.Reading.{readingOf}
 use Rattle.answer.specs.Reading.Meaning.{assignmentIn, taken-request, taken-describes}
 use Rattle.refutation.specs.Refutation.{Lent}
-use Rattle.refutation.specs.Refutation.Sound.{none-unsatisfiable}
-use Rattle.encoding.specs.Least.{unsat-least}
+use Rattle.refutation.specs.Refutation.Sound.{none-more}
 use Rattle.settle.specs.declared.Settlement.{Settlement}
 use Rattle.settle.specs.declared.Verdict.the-variants.{Least}
-use Rattle.settle.specs.Settle.{smaller, settlement, LeastFor}
+use Rattle.settle.specs.Settle.{smaller, settlement}
 use Rattle.settle.specs.Settle.Exactly.{NoneBelow, Told, least-told, told-least}
 
 -- ---- a network that is decoded fills its arrays
@@ -54,28 +54,15 @@ does-exactly q answer taken =
     let d = taken-describes q answer taken in
     (λ e. m .0 e .1, λ j. m .1 (record { good = refusal-good q (taken-request q answer taken); size = d .size; form = d .form }, j))
 
--- the request for k−1 switches is good where that for k is
-smaller-good : (q : Request) → Good q → refusalOf (smaller q) ≡ 0
-smaller-good q g =
-    good-refusal (smaller q)
-    (record {
-      n-low = g .n-low;
-      n-high = g .n-high;
-      table-low = g .table-low;
-      r-high = (let h = g .r-high in omega arith);
-      m-high = g .m-high;
-    })
-
 module _ (q : Request) (answer refutation : List ℕ) (s : Lent) where
   -- the network that the answer describes
   abbrev read : Network
   read = readingOf q answer .network
 
   -- at k = 0, and where the refutation for k−1 ends in "none", each network that does the job has k switches or more
-  none-fewer : Good q → NoneBelow q refutation s → (v : Net) → Formed q v → Does q v → q .r ≤ switches v
-  none-fewer g (inl z) v form job = omega arith
-  none-fewer g (inr o) v form job =
-      let h = unsat-least (smaller q) (smaller-good q g) (none-unsatisfiable (smaller q) refutation s o) v form job in omega arith
+  none-fewer : NoneBelow q refutation s → (v : Net) → Formed q v → Does q v → q .r ≤ switches v
+  none-fewer (inl z) v form job = omega arith
+  none-fewer (inr o) v form job = let h = none-more (smaller q) refutation s o v form job in omega arith
 
   -- the conditions of "least" are those of demand 3
   told-for : Told q answer refutation s → LeastFor q (readingOf q answer .network)
@@ -86,7 +73,7 @@ module _ (q : Request) (answer refutation : List ℕ) (s : Lent) where
         size = a .size;
         form = subst (λ (k : ℕ). FormedAs (q .n) k (listed (q .r) read)) (sym (a .form .literals-long)) (a .form);
         does = m .1;
-        least = none-fewer (a .good) (t .below);
+        least = none-fewer (t .below);
       }
 
   -- where settling says "least", the network that it hands back has k switches and does the job, and none of fewer does

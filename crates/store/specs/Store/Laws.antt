@@ -1,13 +1,15 @@
 -- Laws of the store: literals written on, that the part which pair k names is clause k, and what each refusal answers and leaves.
 -- Assumes nothing.
-use mathlib.Core.Path.{_≡_, sym, ap, ap₂, _∙_}
+use mathlib.Core.Path.{_≡_, refl, sym, ap, ap₂, _∙_}
 use mathlib.Core.List.{List, [], _++_, append-assoc, map-append}
+use mathlib.Core.Logic.{⊎-elim}
 use Prim.Native.Nat.{ℕ, suc, _+_, _*_, _≤_, _<_}
 use native.Mathlib.Omega.{arith}
 use lib.IntN.{ℤ}
 use lib.ListN.{length, getD, take, drop, length-map, List·getD-append}
 use lib.Seq.{take-at, drop-at}
 use borrow.Author.Tests.{eq-eqb, ne-eqb, lt-ltb, le-ltb}
+use Rattle.prelude.specs.Tests.{eq?, le?}
 use Rattle.prelude.specs.Blocks.{flatten, pairsFrom}
 use Rattle.prelude.specs.Blocks.Laws.{flatten-split, pairs-length, pair-offset, pair-length}
 use Rattle.prelude.specs.Written.{written}
@@ -17,7 +19,8 @@ use Rattle.request.specs.Numbers.{refusalOf}
 use Rattle.request.specs.declared.Request.{Request}
 use Rattle.formula.specs.Formula.{formulaOf}
 use Rattle.formula.specs.Count.{clauseCount, literalCount}
-use Rattle.store.specs.Store.{signs, storeRefusal, storedLiterals, storedPairs}
+use Rattle.store.specs.declared.Stored.{Stored}
+use Rattle.store.specs.Store.{signs, storedVariables, storeRefusal, storeSizes, storedLiterals, storedPairs}
 
 -- signed literals are as many as the literals
 pub signs-length : (c : Clause) → length (signs c) ≡ length c
@@ -73,31 +76,68 @@ store-clause q k old pairs h =
     ap₂ (λ (n at : ℕ). take n (drop at (written old 0 (signs (flatten (formulaOf q)))))) (stored-length (formulaOf q) k h pairs) (stored-offset (formulaOf q) k h pairs)
     ∙ stored-read (formulaOf q) k h old
 
-module _ (q : Request) (literals : List ℤ) (pairs : List ℕ) where
+module _ (q : Request) (literals pairs : ℕ) where
   -- a refused request
-  pub refusal-request : (x : ℕ) → x ≡ refusalOf q → (x ≡ 0 → ⊥) → storeRefusal q (length literals) (length pairs) ≡ x
+  pub refusal-request : (x : ℕ) → x ≡ refusalOf q → (x ≡ 0 → ⊥) → storeRefusal q literals pairs ≡ x
   unfolding storeRefusal
   refusal-request x e d = rw (ne-eqb (refusalOf q) 0 (λ z. d (e ∙ z))) (sym e)
 
   -- a literal slice that is too short
-  pub refusal-literals : refusalOf q ≡ 0 → length literals < literalCount q → storeRefusal q (length literals) (length pairs) ≡ 7
+  pub refusal-literals : refusalOf q ≡ 0 → literals < literalCount q → storeRefusal q literals pairs ≡ 7
   unfolding storeRefusal
-  refusal-literals e h = rw (eq-eqb (refusalOf q) 0 e, lt-ltb (length literals) (literalCount q) h)
+  refusal-literals e h = rw (eq-eqb (refusalOf q) 0 e, lt-ltb literals (literalCount q) h)
 
   -- a pair slice that is too short
-  pub refusal-pairs : refusalOf q ≡ 0 → literalCount q ≤ length literals → length pairs < 2 * clauseCount q
-      → storeRefusal q (length literals) (length pairs) ≡ 8
+  pub refusal-pairs : refusalOf q ≡ 0 → literalCount q ≤ literals → pairs < 2 * clauseCount q → storeRefusal q literals pairs ≡ 8
   unfolding storeRefusal
-  refusal-pairs e h l =
-      rw (eq-eqb (refusalOf q) 0 e, le-ltb (length literals) (literalCount q) h, lt-ltb (length pairs) (2 * clauseCount q) l)
+  refusal-pairs e h l = rw (eq-eqb (refusalOf q) 0 e, le-ltb literals (literalCount q) h, lt-ltb pairs (2 * clauseCount q) l)
 
   -- none of these
-  pub refusal-none : refusalOf q ≡ 0 → literalCount q ≤ length literals → 2 * clauseCount q ≤ length pairs
-      → storeRefusal q (length literals) (length pairs) ≡ 0
+  pub refusal-none : refusalOf q ≡ 0 → literalCount q ≤ literals → 2 * clauseCount q ≤ pairs → storeRefusal q literals pairs ≡ 0
   unfolding storeRefusal
-  refusal-none e h l =
-      rw (eq-eqb (refusalOf q) 0 e, le-ltb (length literals) (literalCount q) h, le-ltb (length pairs) (2 * clauseCount q) l)
+  refusal-none e h l = rw (eq-eqb (refusalOf q) 0 e, le-ltb literals (literalCount q) h, le-ltb pairs (2 * clauseCount q) l)
 
+  -- and back: the request is good, and both slices are long enough
+  pub record Taken : Type 0 where
+    pub request : refusalOf q ≡ 0
+    pub literals-long : literalCount q ≤ literals
+    pub pairs-long : 2 * clauseCount q ≤ pairs
+
+  pub none-taken : storeRefusal q literals pairs ≡ 0 → Taken
+  none-taken e =
+      ⊎-elim
+      (λ (z : refusalOf q ≡ 0).
+      ⊎-elim
+      (λ (h : literalCount q ≤ literals).
+      ⊎-elim
+      (λ (l : 2 * clauseCount q ≤ pairs). record { request = z; literals-long = h; pairs-long = l })
+      (λ (l : pairs < 2 * clauseCount q). absurd (let f = refusal-pairs z h l in omega arith))
+      (le? (2 * clauseCount q) pairs))
+      (λ (h : literals < literalCount q). absurd (let f = refusal-literals z h in omega arith))
+      (le? (literalCount q) literals))
+      (λ (d : refusalOf q ≡ 0 → ⊥). absurd (d (sym (refusal-request (refusalOf q) refl d) ∙ e)))
+      (eq? (refusalOf q) 0)
+
+  -- the sizes with a refusal
+  pub sizes-refused : (x : ℕ) → storeRefusal q literals pairs ≡ x → (x ≡ 0 → ⊥)
+      → record { refusal = x; variables = 0; clauses = 0; literals = 0 } ≡ storeSizes q literals pairs
+  unfolding storeSizes
+  sizes-refused x e d = sym (rw (ne-eqb (storeRefusal q literals pairs) 0 (λ z. d (sym e ∙ z)), e))
+
+  -- and without
+  pub sizes-none : storeRefusal q literals pairs ≡ 0
+      → storeSizes q literals pairs ≡ record { refusal = 0; variables = storedVariables q; clauses = clauseCount q; literals = literalCount q }
+  unfolding storeSizes
+  sizes-none e = rw (eq-eqb (storeRefusal q literals pairs) 0 e)
+
+  -- their refusal is that of storing
+  pub sizes-refusal : storeSizes q literals pairs .refusal ≡ storeRefusal q literals pairs
+  sizes-refusal =
+      ⊎-elim (λ (z : storeRefusal q literals pairs ≡ 0). ap (λ (x : Stored). x .refusal) (sizes-none z) ∙ sym z)
+      (λ (d : storeRefusal q literals pairs ≡ 0 → ⊥). ap (λ (x : Stored). x .refusal) (sym (sizes-refused _ refl d)))
+      (eq? (storeRefusal q literals pairs) 0)
+
+module _ (q : Request) (literals : List ℤ) (pairs : List ℕ) where
   -- a refusal leaves both slices
   pub store-refused : (x : ℕ) → storeRefusal q (length literals) (length pairs) ≡ x → (x ≡ 0 → ⊥)
       → (literals ≡ storedLiterals q (length pairs) literals) × (pairs ≡ storedPairs q (length literals) pairs)
