@@ -1,8 +1,10 @@
-/* The C entries of the proved library for the clause file of a request, for
- * reading an answer to it, for checking a refutation of it, and for settling
- * it: whether the answer's network has the least number of switches.
+/* The C entries of the proved library for reading a request, for its clause
+ * file, for reading an answer to it, for checking a network against it, for
+ * checking a refutation of it, and for settling it: whether the answer's network
+ * has the least number of switches.
  *
- * A request is handed over as numbers:
+ * A request is handed over as numbers, which nk_read_request reads from its
+ * line:
  *   n      inputs, 1 to 4
  *   table  bit k is row k, 1 for an on row; no bit at or above 2^n
  *   r      switches, 0 to 7
@@ -10,9 +12,20 @@
  * Row 0 is the first character of a written table, and input 0 is the highest
  * bit of a row's number.
  *
- * Each entry but nk_settle answers 0 when the request is taken, else the
- * number of the refusal. Of 2 to 6 the lowest number that applies is given:
- *   2 bad n, 3 bad table, 4 bad r, 5 bad M, 6 the buffer is too short.
+ * A network is 24 bytes: network[0] is its number of switches r, network[1 .. 8)
+ * its literals, of which the first r count, and network[8 .. 24) its labels, of
+ * which the first 2r+2 count. Switch s, from 0, has the literal network[1+s] and
+ * its ends on the nets network[8+2s+1] and network[8+2s+2]; the source is on net
+ * network[8], which is 0, and the sink on net network[8+2r+1]. A literal v below
+ * n is input v, n + v is the complement of input v.
+ *
+ * nk_check_network and nk_settle answer what they found, and write a number
+ * beside it. Each other entry answers 0, or the number of the refusal. Of 1 to
+ * 6 the lowest number that applies is given:
+ *   1 the line hasn't its form, 2 bad n, 3 bad table, 4 bad r, 5 bad M, 6 the
+ *   buffer is too short.
+ * A network that is handed over has, after 2 to 5:
+ *   13 it hasn't the form.
  * An answer's lines are read from the top, and the first fault counts:
  *   9 a line's form, 10 a variable above V or an X or L variable named twice;
  * then, at the end of the text:
@@ -35,12 +48,8 @@
  * What to lend
  * ------------
  * A refutation is checked over slices whose sizes follow from the request that
- * it refutes: V variables, C clauses, and T literals in all clauses. Write the
- * request's clause file and read them off:
- *   V, C  the two numbers of its first line, "p cnf V C"
- *   T     the number of spaces after its first line, since a clause's line
- *         has a space after each of its literals and none after its 0
- * or lend the most that any request has:
+ * it refutes: V variables, C clauses, and T literals in all clauses. nk_sizes
+ * gives them; or lend the most that any request has:
  *
  *                        V       C       T   bytes of the file
  *   any request      1,856  27,547  77,088             420,799
@@ -68,10 +77,10 @@
 extern "C" {
 #endif
 
-/* The refusals by name, with the numbers of document 01. 1 is not among the
- * answers of the entries, which take a request as numbers; it is for a host
- * that reads the line of a request. Nor is 13: a network that was read from an
- * answer always has the form. */
+/* The refusals by name, with the numbers of document 01. 1 is given by
+ * nk_read_request alone, since the other entries take a request as numbers, and
+ * 13 by nk_check_network alone: a network that was read from an answer always
+ * has the form. */
 enum nk_refusal {
     NK_TAKEN = 0,               /* no refusal */
     NK_BAD_LINE = 1,            /* the line of a request hasn't its form */
@@ -99,11 +108,34 @@ enum nk_refusal {
     NK_NO_EMPTY_CLAUSE = 23     /* the text ends before the empty clause */
 };
 
+/* What nk_check_network answers. */
+enum nk_network_check { NK_NETWORK_DOES = 0, NK_NETWORK_WRONG = 1, NK_NETWORK_REFUSED = 2 };
+
 /* What nk_settle answers. */
 enum nk_verdict { NK_LEAST = 0, NK_WORKS = 1, NK_FAILS = 2, NK_REFUSED = 3 };
 
 /* The longest refutation that is read, in bytes. */
 #define NK_REFUTATION_LIMIT 16777215
+
+/* Reads the line of a request, text[0 .. text_len): n, the table, r and M as
+ * digits, single spaces between, a newline last and nothing else. The text may
+ * have any bytes and any length, and may be empty.
+ *
+ * 0: *n, *table, *r and *m are the request's numbers, which no other entry
+ *    refuses with 2 to 5.
+ * 1 to 5: refused; the four numbers stand.
+ */
+uint32_t nk_read_request(const uint8_t *text, size_t text_len, uint8_t *n, uint16_t *table,
+                         uint8_t *r, uint8_t *m);
+
+/* The sizes of a request's formula: V variables, C clauses, and T literals in
+ * all clauses. What to lend for a refutation of it follows from them.
+ *
+ * 0: *variables is V, *clauses C, *literals T.
+ * 2 to 5: refused; the three numbers stand.
+ */
+uint32_t nk_sizes(uint8_t n, uint16_t table, uint8_t r, uint8_t m, uint32_t *variables,
+                  uint32_t *clauses, uint32_t *literals);
 
 /* How large a buffer is enough for the file.
  *
@@ -117,13 +149,13 @@ uint32_t nk_file_size(uint8_t n, uint16_t table, uint8_t r, uint8_t m, uint64_t 
  * size that nk_file_size gives is enough, and so are 420,799 bytes for any
  * request.
  *
- * 0: *length is the file's length; bytes of the buffer past it stand. The
- *    file is the text for a SAT solver: it is satisfiable exactly when some
- *    network of r switches does the job.
- * 2 to 6: refused; nothing is written to the buffer, *length stands.
+ * 0: *size is the file's length; bytes of the buffer past it stand. The file
+ *    is the text for a SAT solver: it is satisfiable exactly when some network
+ *    of r switches does the job.
+ * 2 to 6: refused; nothing is written to the buffer, *size stands.
  */
 uint32_t nk_write_file(uint8_t n, uint16_t table, uint8_t r, uint8_t m, uint8_t *buffer,
-                       size_t buffer_length, uint64_t *length);
+                       size_t buffer_length, uint64_t *size);
 
 /* Tests the answer text[0 .. text_length): only the number of the
  * refusal is handed back, not the network. The text may be empty. Nothing is
@@ -135,6 +167,20 @@ uint32_t nk_write_file(uint8_t n, uint16_t table, uint8_t r, uint8_t m, uint8_t 
 uint32_t nk_test_answer(uint8_t n, uint16_t table, uint8_t r, uint8_t m, const uint8_t *text,
                         size_t text_length);
 
+/* Checks whether a network does the request's job: on each on row a walk of at
+ * most M closed switches joins source and sink, on each off row no walk of any
+ * number of closed switches does. Literals past the first r and labels past the
+ * first 2r+2 are not read.
+ *
+ * 0: does. *number is 0.
+ * 1: wrong. *number is the lowest wrong row.
+ * 2: refused. *number is 2 to 5, or 13 where network[0] is not the request's r,
+ *    a literal is not below 2n, or a label is not the lowest terminal of its
+ *    net: terminals with equal labels are on one net.
+ */
+uint32_t nk_check_network(uint8_t n, uint16_t table, uint8_t r, uint8_t m,
+                          const uint8_t network[24], uint32_t *number);
+
 /* Checks the refutation text[0 .. text_len), which may be empty. With V
  * variables, C clauses and T literals in the file, the lent slices are:
  *   literals  at least T entries, the literals of all clauses
@@ -145,10 +191,12 @@ uint32_t nk_test_answer(uint8_t n, uint16_t table, uint8_t r, uint8_t m, const u
  *   values    at least V+1 bytes
  * What they hold before the call does not matter.
  *
- * 0: the text refutes the request ("none"). 16 to 23: refused. In both cases
- *    the first T literals and 2C pairs are filled, *count is the number of
- *    added clauses, the first 2 * *count entries of added are theirs, the
- *    first V+1 values are 0, and all other entries stand.
+ * 0: the text refutes the request ("none"): every network that does the job,
+ *    of any number of switches, has more than r switches.
+ * 16 to 23: refused.
+ *    In both cases the first T literals and 2C pairs are filled, *count is the
+ *    number of added clauses, the first 2 * *count entries of added are theirs,
+ *    the first V+1 values are 0, and all other entries stand.
  * 2 to 5, 7, 8, 14, 15: refused; the slices stand, *count is 0.
  *
  * Clause i of the file, from 1, is pairs[2i-1] literals from entry
@@ -172,14 +220,8 @@ uint32_t nk_check_refutation(uint8_t n, uint16_t table, uint8_t r, uint8_t m, co
  * 2: fails. *number is the lowest wrong row of the network.
  * 3: refused. *number is the answer's refusal: 2 to 5 or 9 to 12.
  *
- * network[0] is the network's number of switches r, network[1 .. 8) its
- * literals, of which the first r count, and network[8 .. 24) its labels, of
- * which the first 2r+2 count; all other entries are 0. It is the network that
- * the answer describes; after 3 all 24 bytes are 0. Switch s, from 0, has the
- * literal network[1+s] and its ends on the nets network[8+2s+1] and
- * network[8+2s+2]; the source is on net network[8], which is 0, and the sink
- * on net network[8+2r+1]. A literal v below n is input v, n + v is the
- * complement of input v.
+ * The 24 bytes of the network are those that the answer describes, with 0 for
+ * the literals and labels that do not count; after 3 all are 0.
  *
  * After 0 and 1 the slices are, for k above 0, as nk_check_refutation leaves
  * them; at k = 0 and after 2 and 3 they stand.

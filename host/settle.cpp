@@ -8,26 +8,34 @@
 // A missing file is an empty one. --memory prints the peak resident size to
 // standard error.
 //
-// The verdict and the network are the proved library's. What stands here reads
-// the request's line, maps the files, lends the slices and prints. Slices are
-// as short as they may be (host/nordkelch.h, "What to lend"): where one were
-// too short the verdict would be "works" with 7, 8, 14 or 22, never "least".
+// The reading of the request's line, the verdict and the network are the proved
+// library's. What stands here maps the files, lends the slices and prints.
+// Slices are as short as they may be (host/nordkelch.h, "What to lend"): where
+// one were too short the verdict would be "works" with 7, 8, 14 or 22, never
+// "least".
 #include <fcntl.h>
 #include <sys/mman.h>
 #include <sys/resource.h>
 #include <sys/stat.h>
 #include <unistd.h>
 
+#include <cstddef>
+#include <cstdint>
 #include <cstdio>
-#include <cstdlib>
 #include <cstring>
-#include <string>
 #include <string_view>
 #include <vector>
 
-#include "request.hpp"
+#include "nordkelch.h"
 
 namespace {
+
+struct Request {
+    std::uint8_t n = 0;
+    std::uint16_t table = 0;
+    std::uint8_t r = 0;
+    std::uint8_t m = 0;
+};
 
 // A file's bytes, mapped: a long refutation is not copied, and its pages are
 // read when the check comes to them. Empty where the file is missing or has
@@ -64,22 +72,6 @@ class Text {
     const std::uint8_t* bytes_ = &none_;
     std::size_t length_ = 0;
 };
-
-// V, C and T of a request, read off its clause file.
-struct Counts {
-    std::size_t variables = 0;
-    std::size_t clauses = 0;
-    std::size_t literals = 0;
-};
-
-Counts counts_of(const Request& request) {
-    const std::string file = clause_file(request);
-    Counts counts;
-    std::sscanf(file.c_str(), "p cnf %zu %zu", &counts.variables, &counts.clauses);
-    // a line "a b c 0" has a space after each literal
-    for (std::size_t i = file.find('\n'); i < file.size(); i++) counts.literals += file[i] == ' ';
-    return counts;
-}
 
 // The lines of a refutation that may add a clause: all but those whose second
 // word is "d".
@@ -127,23 +119,23 @@ void settle(const Request& q, const Text& answer, const Text& refutation) {
     // the refutation is of the request with one switch fewer; at k = 0 none is
     // read, and the slices have only the one entry that makes their pointers
     // not null
-    Counts counts;
+    std::uint32_t V = 0, C = 0, T = 0;
     std::size_t lines = 0;
     if (q.r > 0) {
-        counts = counts_of({q.n, q.table, std::uint8_t(q.r - 1), q.m});
+        nk_sizes(q.n, q.table, std::uint8_t(q.r - 1), q.m, &V, &C, &T);
         // a text above the limit is refused before any line is read
         if (refutation.length() <= NK_REFUTATION_LIMIT) lines = adding_lines(refutation.view());
     }
-    std::vector<std::int32_t> literals(counts.literals + 1);
-    std::vector<std::uint32_t> pairs(2 * counts.clauses + 1);
+    std::vector<std::int32_t> literals(T + 1);
+    std::vector<std::uint32_t> pairs(2 * C + 1);
     std::vector<std::uint32_t> added(2 * lines + 1);
-    std::vector<std::uint8_t> values(counts.variables + 1);
+    std::vector<std::uint8_t> values(V + 1);
     std::uint8_t network[24] = {};
     std::uint32_t number = 0;
     const std::uint32_t verdict = nk_settle(
         q.n, q.table, q.r, q.m, answer.bytes(), answer.length(), refutation.bytes(),
-        refutation.length(), literals.data(), counts.literals, pairs.data(), 2 * counts.clauses,
-        added.data(), 2 * lines, values.data(), values.size(), network, &number);
+        refutation.length(), literals.data(), T, pairs.data(), 2 * C, added.data(), 2 * lines,
+        values.data(), values.size(), network, &number);
     print_report(q.r, verdict, number, network);
 }
 
@@ -159,12 +151,13 @@ int main(int argc, char** argv) {
     const Text line(names[0]);
     const Text answer(names[1]);
     const Text refutation(names[2]);
-    Request request;
-    const std::uint32_t refusal = read_request(line.view(), request);
+    Request q;
+    const std::uint32_t refusal =
+        nk_read_request(line.bytes(), line.length(), &q.n, &q.table, &q.r, &q.m);
     if (refusal != NK_TAKEN) {
         std::printf("refused %u\n", unsigned(refusal));
     } else {
-        settle(request, answer, refutation);
+        settle(q, answer, refutation);
     }
     if (memory) {
         rusage usage;

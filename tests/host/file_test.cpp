@@ -1,5 +1,5 @@
 // Compares the proved library's clause files with those of the second
-// implementation, byte by byte.
+// implementation, byte by byte, and V, C and T with its counts.
 //
 //   c++ -std=c++17 -O2 -o file_test file_test.cpp LIBRARY.a
 //   file_test                  runs all groups of checks
@@ -21,6 +21,7 @@
 #include "../second/clauses.hpp"
 #include "files.hpp"
 #include "checks.hpp"
+#include "lent.hpp"
 #include "nordkelch.h"
 
 namespace {
@@ -165,6 +166,50 @@ std::uint64_t check_size(Group& group, const Request& q, std::size_t length) {
     return size;
 }
 
+// V, C and T.
+struct Sizes {
+    unsigned variables = 0;
+    unsigned clauses = 0;
+    unsigned literals = 0;
+
+    bool operator==(const Sizes& other) const {
+        return variables == other.variables && clauses == other.clauses &&
+               literals == other.literals;
+    }
+};
+
+std::string sizes_text(const Sizes& sizes) {
+    return std::to_string(sizes.variables) + " " + std::to_string(sizes.clauses) + " " +
+           std::to_string(sizes.literals);
+}
+
+Sizes any_sizes() {
+    const auto any = [] { return unsigned(random_numbers.next() >> 32); };
+    return {any(), any(), any()};
+}
+
+// One call of nk_sizes: the second implementation's number, and its V, C and T
+// where that is 0, else the sizes of before. Gives what the library left.
+Sizes check_sizes(Group& group, const Request& q) {
+    Sizes want = any_sizes();
+    Lent<std::uint32_t> variables(random_numbers, {want.variables});
+    Lent<std::uint32_t> clauses(random_numbers, {want.clauses});
+    Lent<std::uint32_t> literals(random_numbers, {want.literals});
+    const std::uint32_t answer =
+        nk_sizes(std::uint8_t(q.n), std::uint16_t(q.table), std::uint8_t(q.r), std::uint8_t(q.m),
+                 variables.data(), clauses.data(), literals.data());
+    const Sizes have = {*variables.data(), *clauses.data(), *literals.data()};
+    const std::uint32_t number = std::uint32_t(second::refusal(q));
+    if (number == 0) second::counts(q, want.variables, want.clauses, want.literals);
+    const bool same = answer == number && have == want && variables.edges_stand() &&
+                      clauses.edges_stand() && literals.edges_stand();
+    group.check(same, same ? "" : numbers_of(q),
+                same ? ""
+                     : "sizes answers " + std::to_string(answer) + " with " + sizes_text(have) +
+                           ", not " + std::to_string(number) + " with " + sizes_text(want));
+    return have;
+}
+
 // The second implementation against itself: counts by formula, counts of the
 // clauses, every literal from 1 to V.
 void check_counts(Group& group, const Request& q) {
@@ -195,6 +240,7 @@ void check_counts(Group& group, const Request& q) {
 // All checks of a good request against the file that it must have.
 void check_file(Group& group, const Request& q, const std::string& file) {
     const std::size_t length = file.size();
+    check_sizes(group, q);
     const std::uint64_t size = check_size(group, q, length);
     check_written(group, q, file, length);
     check_written(group, q, file, length + 1 + random_numbers.next() % 300);
@@ -248,12 +294,47 @@ void groups_of_files() {
     }
 }
 
+// The larger of each.
+void raise(Sizes& most, const Sizes& sizes) {
+    most.variables = std::max(most.variables, sizes.variables);
+    most.clauses = std::max(most.clauses, sizes.clauses);
+    most.literals = std::max(most.literals, sizes.literals);
+}
+
+// V, C and T of each n, r and M: every table for n up to 3, every number of on
+// rows for n = 4; then every table for n = 4 with some r and M. The most of any
+// request, and of any with r up to 6, stand in host/nordkelch.h.
+void group_sizes() {
+    Group group("sizes of all requests");
+    Sizes most, most_to_6;
+    const auto check = [&](const Request& q) {
+        const Sizes sizes = check_sizes(group, q);
+        raise(most, sizes);
+        if (q.r < 7) raise(most_to_6, sizes);
+    };
+    for (unsigned r = 0; r <= 7; r++) {
+        for (unsigned m = 0; m <= 7; m++) {
+            for (unsigned n = 1; n <= 3; n++) {
+                for (unsigned table = 0; table < 1u << (1u << n); table++) check({n, table, r, m});
+            }
+            for (unsigned ones = 0; ones <= 16; ones++) check({4, (1u << ones) - 1, r, m});
+        }
+    }
+    for (unsigned table = 0; table <= 0xFFFF; table++) {
+        check({4, table, unsigned(random_numbers.below(8)), unsigned(random_numbers.below(8))});
+    }
+    group.check(most == Sizes{1856, 27547, 77088}, "any request", sizes_text(most));
+    group.check(most_to_6 == Sizes{1595, 20978, 58140}, "r up to 6", sizes_text(most_to_6));
+    group.finish();
+}
+
 // ---------------------------------------------------------------------------
 // Groups for refused requests
 // ---------------------------------------------------------------------------
 
 // The number comes before the short buffer too: room 0 gives 2 to 5, not 6.
 void check_refused(Group& group, const Request& q, unsigned number) {
+    check_sizes(group, q);
     check_refused_size(group, q, numbers_of(q), number);
     check_refused_write(group, q, numbers_of(q), number, 4096);
     check_refused_write(group, q, numbers_of(q), number, 0);
@@ -301,9 +382,11 @@ void group_refused_mixtures() {
     group.finish();
 }
 
-// One call of nk_file_size: the right number, and a size only if it is taken.
+// A call of nk_sizes and one of nk_file_size: the right number, and a size only
+// if it is taken.
 void check_taken_or_refused(Group& group, const Request& q) {
     const int number = second::refusal(q);
+    check_sizes(group, q);
     if (number != 0) {
         check_refused_size(group, q, numbers_of(q), unsigned(number));
     } else {
@@ -390,6 +473,7 @@ void group_p3() {
     group.check(V == 1856, line_of(q), "second: V is not 1856");
     group.check(C == 27547, line_of(q), "second: C is not 27547");
     group.check(T == 77088, line_of(q), "second: T is not 77088");
+    group.check(check_sizes(group, q) == Sizes{1856, 27547, 77088}, line_of(q), "other sizes");
 
     // 8(T+C)+32 = 837112 bytes are enough.
     const Writing w = write_inside(q, 837112);
@@ -452,85 +536,6 @@ void group_inputs() {
             }
         }
     }
-    group.finish();
-}
-
-// Reading a request has no entry in the library; here the second
-// implementation is held against the examples of document 01 and of its
-// readings in docs/DECISIONS.md.
-void group_reading() {
-    struct Row {
-        std::string text;
-        int number;
-    };
-    const std::string many(60000, '0');
-    const Row rows[] = {
-        {"", 1},
-        {"\n", 1},
-        {"1 01 1 1", 1},
-        {" 1 01 1 1\n", 1},
-        {"1  01 1 1\n", 1},
-        {"1 01 1 1 \n", 1},
-        {"1 01 1\n", 1},
-        {"1 01 1 1 1\n", 1},
-        {"1 01 1 1\n\n", 1},
-        {"1 01 1 1\n1 01 1 1\n", 1},
-        {"1 01 1 1\r\n", 1},
-        {"1\t01 1 1\n", 1},
-        {"+1 01 1 1\n", 1},
-        {"1 0a 1 1\n", 1},
-        {"1 0- 1 1\n", 1},
-        {"1  1 1\n", 1},
-        {"9 x 9 9\n", 1},
-        {std::string("1 01 1 1\n\0", 10), 1},
-        {"0 01 1 1\n", 2},
-        {"5 01 1 1\n", 2},
-        {"01 01 1 1\n", 2},
-        {"11 01 1 1\n", 2},
-        {"9 2 9 9\n", 2},
-        {many + " 01 1 1\n", 2},
-        {"1 9 9 9\n", 3},
-        {"1 011 1 1\n", 3},
-        {"1 0 1 1\n", 3},
-        {"1 02 1 1\n", 3},
-        {"2 01 1 1\n", 3},
-        {"1 " + many + " 1 1\n", 3},
-        {"1 01 8 1\n", 4},
-        {"1 01 00 1\n", 4},
-        {"1 01 07 9\n", 4},
-        {"1 01 10 1\n", 4},
-        {"1 01 1 8\n", 5},
-        {"1 01 1 01\n", 5},
-        {"1 01 1 " + many + "\n", 5},
-    };
-    Group group("second: reading a request, refused");
-    for (const Row& row : rows) {
-        Request q = {90, 91, 92, 93};
-        const int number = second::read_request(row.text, q);
-        const bool stands = q.n == 90 && q.table == 91 && q.r == 92 && q.m == 93;
-        const std::string who = row.text.substr(0, 20);
-        group.check(number == row.number, who, "number " + std::to_string(number));
-        group.check(stands, who, "the request is written");
-    }
-    group.finish();
-}
-
-void check_read(Group& group, const std::string& text, const Request& want) {
-    Request q = {90, 91, 92, 93};
-    const int number = second::read_request(text, q);
-    const bool same = q.n == want.n && q.table == want.table && q.r == want.r && q.m == want.m;
-    group.check(number == 0 && same, text.substr(0, text.size() - 1), "read as " + numbers_of(q));
-}
-
-void group_reading_good() {
-    Group group("second: reading a request, taken");
-    check_read(group, "1 00 0 0\n", {1, 0x0, 0, 0});
-    check_read(group, "1 01 1 1\n", {1, 0x2, 1, 1});
-    check_read(group, "2 1000 7 0\n", {2, 0x1, 7, 0});
-    check_read(group, "2 0110 4 2\n", {2, 0x6, 4, 2});
-    check_read(group, "3 00000001 0 7\n", {3, 0x80, 0, 7});
-    check_read(group, "4 1100000000000001 7 7\n", {4, 0x8003, 7, 7});
-    check_read(group, "4 1111111111111111 7 7\n", {4, 0xFFFF, 7, 7});
     group.finish();
 }
 
@@ -597,11 +602,10 @@ void run_all() {
     group_p4();
     group_order();
     group_inputs();
-    group_reading();
-    group_reading_good();
     group_refused_by_hand();
     group_refused_mixtures();
     group_every_value();
+    group_sizes();
     groups_of_files();
 }
 

@@ -1,7 +1,9 @@
-// Damaged requests: as numbers through every entry of the library, and as texts
-// through the programs; compared with the second implementation.
+// Requests, good and damaged: as numbers through every entry of the library that
+// takes them, as lines through nk_read_request, and as texts through the
+// programs; compared with the second implementation.
 //
-//   request_test                        runs all groups of checks on numbers
+//   request_test                        runs all groups of checks on numbers and
+//                                       on lines
 //   request_test --programs FILE REPORT FOLDER ANSWER REFUTATION n table k m ...
 //                                       the programs `file` and `report` on
 //                                       damaged texts, with files in FOLDER;
@@ -24,6 +26,7 @@
 #include "../second/programs.hpp"
 #include "checks.hpp"
 #include "files.hpp"
+#include "guarded.hpp"
 #include "lent.hpp"
 #include "nordkelch.h"
 
@@ -63,6 +66,16 @@ std::string number_fault(const char* entry, std::uint32_t have, std::uint32_t wa
            std::to_string(want);
 }
 
+std::string sizes_fault(const Request& q, std::uint32_t want) {
+    const std::vector<std::uint32_t> before = {1, 2, 3};
+    Lent<std::uint32_t> sizes(random_numbers, before);
+    const std::uint32_t have =
+        nk_sizes(std::uint8_t(q.n), std::uint16_t(q.table), std::uint8_t(q.r), std::uint8_t(q.m),
+                 sizes.data(), sizes.data() + 1, sizes.data() + 2);
+    const bool stand = sizes.slice() == before && sizes.edges_stand();
+    return number_fault("sizes", have, want) + (stand ? "" : ", the sizes are written");
+}
+
 std::string size_fault(const Request& q, std::uint32_t want) {
     const std::uint64_t before = random_numbers.next();
     std::uint64_t size = before;
@@ -92,6 +105,23 @@ std::string answer_fault(const Request& q, std::uint32_t want) {
         nk_test_answer(std::uint8_t(q.n), std::uint16_t(q.table), std::uint8_t(q.r),
                        std::uint8_t(q.m), bytes_of(text), text.size());
     return number_fault("answer", have, want);
+}
+
+// P8's network, one of any bytes, or zeros.
+std::string network_fault(const Request& q, std::uint32_t want) {
+    std::vector<std::uint8_t> bytes = {1, 0, 0, 0, 0, 0, 0, 0, 0, 0, 2, 2};
+    bytes.resize(24);
+    if (random_numbers.below(2) == 0) bytes = any_content<std::uint8_t>(random_numbers, 24, 16);
+    Lent<std::uint8_t> network(random_numbers, bytes);
+    Lent<std::uint32_t> number(random_numbers, {std::uint32_t(random_numbers.next() >> 32)});
+    const std::uint32_t answer =
+        nk_check_network(std::uint8_t(q.n), std::uint16_t(q.table), std::uint8_t(q.r),
+                         std::uint8_t(q.m), network.data(), number.data());
+    const bool stand =
+        network.slice() == bytes && network.edges_stand() && number.edges_stand();
+    return number_fault("network", answer, NK_NETWORK_REFUSED) +
+           number_fault("network", *number.data(), want) +
+           (stand ? "" : ", more than the number is written");
 }
 
 std::string check_fault(const Request& q, std::uint32_t want) {
@@ -126,13 +156,14 @@ std::string settle_fault(const Request& q, std::uint32_t want) {
     return fault + differences(lent, before);
 }
 
-// All five entries refuse the request with the same number, the lowest that
+// All seven entries refuse the request with the same number, the lowest that
 // applies, and leave what they are lent. A good request is passed over.
 void check_refused(Group& group, const Request& q) {
     const int number = second::refusal(q);
     if (number == 0) return;
     const std::uint32_t want = std::uint32_t(number);
-    const std::string fault = size_fault(q, want) + write_fault(q, want) + answer_fault(q, want) +
+    const std::string fault = sizes_fault(q, want) + size_fault(q, want) + write_fault(q, want) +
+                              answer_fault(q, want) + network_fault(q, want) +
                               check_fault(q, want) + settle_fault(q, want);
     group.check(fault.empty(), fault.empty() ? "" : numbers_of(q),
                 fault.empty() ? "" : fault.substr(2));
@@ -188,7 +219,7 @@ void group_random() {
 void group_numbers_seen() {
     Group group("number of damaged requests");
     group.check(damaged_requests >= 100000, "damaged requests", "fewer than 100000");
-    std::printf("%lu damaged requests, each through the five entries:", damaged_requests);
+    std::printf("%lu damaged requests, each through the seven entries:", damaged_requests);
     for (int number = 2; number <= 5; number++) {
         group.check(seen[number] >= 1000, "number " + std::to_string(number), "fewer than 1000");
         std::printf(" %lu with %d%s", seen[number], number, number == 5 ? "\n" : ",");
@@ -197,30 +228,170 @@ void group_numbers_seen() {
 }
 
 // ---------------------------------------------------------------------------
-// Texts through the programs
+// Requests as lines
 // ---------------------------------------------------------------------------
 
-void write_text(const std::string& name, const std::string& text) {
-    std::ofstream out(name, std::ios::binary);
-    out.write(text.data(), std::streamsize(text.size()));
+Guarded guarded;
+
+// How often each number came up.
+unsigned long lines_read[6] = {0};
+
+// One text through nk_read_request: the second implementation's number, and its
+// request where that is 0, else the numbers of before. Gives the number.
+int check_line(Group& group, const std::string& text) {
+    const auto any = [](std::size_t count) { return unsigned(random_numbers.below(count)); };
+    Request want = {any(256), any(65536), any(256), any(256)};
+    Lent<std::uint8_t> n(random_numbers, {std::uint8_t(want.n)});
+    Lent<std::uint16_t> table(random_numbers, {std::uint16_t(want.table)});
+    Lent<std::uint8_t> r(random_numbers, {std::uint8_t(want.r)});
+    Lent<std::uint8_t> m(random_numbers, {std::uint8_t(want.m)});
+    const std::uint32_t have = nk_read_request(guarded.put(text), text.size(), n.data(),
+                                               table.data(), r.data(), m.data());
+    const Request left = {*n.data(), *table.data(), *r.data(), *m.data()};
+    const int number = second::read_request(text, want);
+    std::string fault = number_fault("reading", have, std::uint32_t(number));
+    if (left.n != want.n || left.table != want.table || left.r != want.r || left.m != want.m) {
+        fault += ", the numbers are " + numbers_of(left) + ", not " + numbers_of(want);
+    }
+    if (!n.edges_stand() || !table.edges_stand() || !r.edges_stand() || !m.edges_stand()) {
+        fault += ", more than the four numbers is written";
+    }
+    group.check(fault.empty(), fault.empty() ? "" : shown(text),
+                fault.empty() ? "" : fault.substr(2));
+    lines_read[number]++;
+    return number;
 }
 
-// Runs a program in a folder, with the file `in` there as its standard input,
-// and gives what it prints.
-std::string output_of(const std::string& program, const std::string& folder) {
-    std::fflush(stdout);
-    const pid_t child = fork();
-    if (child == 0) {
-        if (chdir(folder.c_str()) != 0) _exit(100);
-        dup2(open("in", O_RDONLY), 0);
-        dup2(open("out", O_WRONLY | O_CREAT | O_TRUNC, 0666), 1);
-        execl(program.c_str(), program.c_str(), static_cast<char*>(nullptr));
-        _exit(101);
+// The examples of document 01 and of its readings in docs/DECISIONS.md, each
+// with its number: the library and the second implementation both give it.
+void group_lines_by_hand() {
+    struct Row {
+        std::string text;
+        int number;
+    };
+    const std::string many(60000, '0');
+    const Row rows[] = {
+        {"", 1},
+        {"\n", 1},
+        {"1 01 1 1", 1},
+        {" 1 01 1 1\n", 1},
+        {"1  01 1 1\n", 1},
+        {"1 01 1 1 \n", 1},
+        {"1 01 1\n", 1},
+        {"1 01 1 1 1\n", 1},
+        {"1 01 1 1\n\n", 1},
+        {"1 01 1 1\n1 01 1 1\n", 1},
+        {"1 01 1 1\r\n", 1},
+        {"1\t01 1 1\n", 1},
+        {"+1 01 1 1\n", 1},
+        {"1 0a 1 1\n", 1},
+        {"1 0- 1 1\n", 1},
+        {"1  1 1\n", 1},
+        {"9 x 9 9\n", 1},
+        {std::string("1 01 1 1\n\0", 10), 1},
+        {"0 01 1 1\n", 2},
+        {"5 01 1 1\n", 2},
+        {"01 01 1 1\n", 2},
+        {"11 01 1 1\n", 2},
+        {"9 2 9 9\n", 2},
+        {many + " 01 1 1\n", 2},
+        {"1 9 9 9\n", 3},
+        {"1 011 1 1\n", 3},
+        {"1 0 1 1\n", 3},
+        {"1 02 1 1\n", 3},
+        {"2 01 1 1\n", 3},
+        {"1 " + many + " 1 1\n", 3},
+        {"1 01 8 1\n", 4},
+        {"1 01 00 1\n", 4},
+        {"1 01 07 9\n", 4},
+        {"1 01 10 1\n", 4},
+        {"1 01 1 8\n", 5},
+        {"1 01 1 01\n", 5},
+        {"1 01 1 " + many + "\n", 5},
+    };
+    Group group("lines, by hand");
+    for (const Row& row : rows) {
+        const int number = check_line(group, row.text);
+        group.check(number == row.number, shown(row.text), "second: " + std::to_string(number));
     }
-    int status = 0;
-    if (child < 0 || waitpid(child, &status, 0) != child) return "the program does not run";
-    if (!WIFEXITED(status) || WEXITSTATUS(status) >= 100) return "the program does not end";
-    return text_of_file(folder + "/out");
+    group.finish();
+}
+
+// A line whose request is written out: both read it so.
+void check_read(Group& group, const std::string& text, const Request& want) {
+    Request q = {90, 91, 92, 93};
+    check_line(group, text);
+    const int number = second::read_request(text, q);
+    const bool same = q.n == want.n && q.table == want.table && q.r == want.r && q.m == want.m;
+    group.check(number == 0 && same, shown(text), "second: read as " + numbers_of(q));
+}
+
+void group_lines_taken() {
+    Group group("lines that are taken, by hand");
+    check_read(group, "1 00 0 0\n", {1, 0x0, 0, 0});
+    check_read(group, "1 01 1 1\n", {1, 0x2, 1, 1});
+    check_read(group, "2 1000 7 0\n", {2, 0x1, 7, 0});
+    check_read(group, "2 0110 4 2\n", {2, 0x6, 4, 2});
+    check_read(group, "3 00000001 0 7\n", {3, 0x80, 0, 7});
+    check_read(group, "4 1100000000000001 7 7\n", {4, 0x8003, 7, 7});
+    check_read(group, "4 1111111111111111 7 7\n", {4, 0xFFFF, 7, 7});
+    group.finish();
+}
+
+// Every good request for n up to 3, and every table for n = 4 with some r and M.
+void group_good_lines() {
+    Group group("lines of good requests");
+    const auto check = [&](unsigned n, unsigned table, std::size_t r, std::size_t m) {
+        std::string line = std::to_string(n) + " ";
+        for (unsigned row = 0; row < 1u << n; row++) line += (table >> row & 1) == 1 ? '1' : '0';
+        line += " " + std::to_string(r) + " " + std::to_string(m) + "\n";
+        group.check(check_line(group, line) == 0, shown(line), "second: refused");
+    };
+    for (unsigned n = 1; n <= 3; n++) {
+        for (unsigned table = 0; table < 1u << (1u << n); table++) {
+            for (std::size_t r_and_m = 0; r_and_m < 64; r_and_m++) {
+                check(n, table, r_and_m / 8, r_and_m % 8);
+            }
+        }
+    }
+    for (unsigned table = 0; table <= 0xFFFF; table++) {
+        check(4, table, random_numbers.below(8), random_numbers.below(8));
+    }
+    group.finish();
+}
+
+// Every text of up to nine bytes, the length of the shortest good line, of the
+// bytes 0, 1, space and newline.
+void group_short_lines() {
+    Group group("all short lines");
+    for (std::size_t length = 0; length <= 9; length++) {
+        std::string text(length, ' ');
+        for (std::size_t choice = 0; choice < std::size_t(1) << (2 * length); choice++) {
+            for (std::size_t i = 0; i < length; i++) text[i] = "01 \n"[choice >> (2 * i) & 3];
+            check_line(group, text);
+        }
+    }
+    group.finish();
+}
+
+// Good lines in which one byte is any other, left out or put in, and the parts
+// of them before and after each place.
+void group_one_byte() {
+    Group group("lines with one byte changed");
+    for (const std::string line : {"1 01 1 1\n", "2 0110 4 2\n", "3 11101000 5 2\n",
+                                   "4 0001001100011111 5 2\n"}) {
+        for (std::size_t place = 0; place <= line.size(); place++) {
+            const std::string before = line.substr(0, place), after = line.substr(place);
+            check_line(group, before);
+            check_line(group, after);
+            if (!after.empty()) check_line(group, before + after.substr(1));
+            for (int byte = 0; byte < 256; byte++) {
+                check_line(group, before + char(byte) + after);
+                if (!after.empty()) check_line(group, before + char(byte) + after.substr(1));
+            }
+        }
+    }
+    group.finish();
 }
 
 char any_byte() {
@@ -253,6 +424,83 @@ std::string any_line() {
     std::string line = (bad_n ? digit(10) : std::to_string(n)) + " ";
     for (std::size_t row = 0; row < (std::size_t(1) << n); row++) line += digit(bad_table ? 3 : 2);
     return line + " " + digit(9) + " " + digit(9) + "\n";
+}
+
+// Lines of requests, half of them damaged, and texts of any bytes.
+void group_any_lines() {
+    Group group("any lines");
+    for (unsigned round = 0; round < 200000; round++) {
+        check_line(group, round % 2 == 0 ? any_line() : damaged(any_line()));
+    }
+    for (unsigned round = 0; round < 50000; round++) {
+        std::string text(random_numbers.below(round % 100 == 0 ? 5000 : 40), ' ');
+        for (char& c : text) c = round % 2 == 0 ? any_byte() : char(random_numbers.below(256));
+        check_line(group, text);
+    }
+    group.finish();
+}
+
+// Fields of many digits. In 8 or 16 bits some of their lengths would be good.
+void group_long_lines() {
+    Group group("lines with long runs of digits");
+    std::vector<std::size_t> lengths = {300, 4095, 4096, 4097, 1000000};
+    for (std::size_t few : {0, 1, 2, 3, 4, 5, 7, 8, 9, 15, 16, 17}) {
+        for (std::size_t wrapped : {0, 256, 65536}) lengths.push_back(few + wrapped);
+    }
+    for (std::size_t field = 0; field < 4; field++) {
+        for (std::size_t length : lengths) {
+            for (const char digit : {'0', '1', '7', '9'}) {
+                const std::string n = std::to_string(1 + random_numbers.below(4));
+                const std::string table(std::size_t(1) << (n[0] - '0'), '1');
+                std::string fields[] = {n, table, "7", "7"};
+                fields[field] = std::string(length, digit);
+                const std::string line =
+                    fields[0] + " " + fields[1] + " " + fields[2] + " " + fields[3];
+                check_line(group, line + "\n");
+                if (length > 1) check_line(group, line.substr(0, line.size() - 1 - length / 2));
+            }
+        }
+    }
+    group.finish();
+}
+
+void group_lines_seen() {
+    Group group("number of lines");
+    unsigned long all = 0;
+    for (unsigned long count : lines_read) all += count;
+    std::printf("%lu lines read:", all);
+    for (int number = 0; number <= 5; number++) {
+        group.check(lines_read[number] >= 1000, "number " + std::to_string(number), "too few");
+        std::printf(" %lu with %d%s", lines_read[number], number, number == 5 ? "\n" : ",");
+    }
+    group.finish();
+}
+
+// ---------------------------------------------------------------------------
+// Texts through the programs
+// ---------------------------------------------------------------------------
+
+void write_text(const std::string& name, const std::string& text) {
+    std::ofstream out(name, std::ios::binary);
+    out.write(text.data(), std::streamsize(text.size()));
+}
+
+// Runs a program in a folder, with the file `in` there as its standard input,
+// and gives what it prints.
+std::string output_of(const std::string& program, const std::string& folder) {
+    std::fflush(stdout);
+    const pid_t child = fork();
+    if (child == 0) {
+        if (chdir(folder.c_str()) != 0) _exit(100);
+        dup2(open("in", O_RDONLY), 0);
+        dup2(open("out", O_WRONLY | O_CREAT | O_TRUNC, 0666), 1);
+        execl(program.c_str(), program.c_str(), static_cast<char*>(nullptr));
+        _exit(101);
+    }
+    int status = 0;
+    if (child < 0 || waitpid(child, &status, 0) != child) return "the program does not run";
+    if (!WIFEXITED(status) || WEXITSTATUS(status) >= 100) return "the program does not end";
+    return text_of_file(folder + "/out");
 }
 
 // What the programs have said, by the first word and, for refusals, the number.
@@ -333,6 +581,14 @@ void run_all() {
     group_tables();
     group_random();
     group_numbers_seen();
+    group_lines_by_hand();
+    group_lines_taken();
+    group_good_lines();
+    group_short_lines();
+    group_one_byte();
+    group_any_lines();
+    group_long_lines();
+    group_lines_seen();
 }
 
 }  // namespace

@@ -1,4 +1,5 @@
-// Compares nk_settle with the second implementation, on real cells given as files and on damaged copies of them.
+// Compares nk_settle with the second implementation, on real cells given as files and on damaged copies of them. Each network that it
+// hands back goes through nk_check_network.
 //
 //   settle_test ANSWER REFUTATION n table k m ...        six words for each cell, which has to come out as "least"
 //   settle_test --verdict ANSWER REFUTATION n table k m  prints the verdict as the report does: "least k", "works k number",
@@ -40,6 +41,16 @@ Lengths needed(const Cell& cell) {
     return exact_lengths(smaller, lines_in(cell.refutation));
 }
 
+// The network that was handed back does the job after "least" and "works", and is wrong on the same row after "fails".
+std::string network_difference(const Request& q, const std::uint8_t* network, const second::Settlement& want) {
+    std::uint32_t number = std::uint32_t(random_numbers.next() >> 32);
+    const std::uint32_t answer =
+        nk_check_network(std::uint8_t(q.n), std::uint16_t(q.table), std::uint8_t(q.r), std::uint8_t(q.m), network, &number);
+    const bool fails = want.verdict == NK_FAILS;
+    if (answer == (fails ? NK_NETWORK_WRONG : NK_NETWORK_DOES) && number == (fails ? want.number : 0)) return "";
+    return ", its network is checked as " + std::to_string(answer) + " " + std::to_string(number);
+}
+
 // One call in slices of these lengths, with random contents; the library and the second implementation agree in everything. The
 // answer is the second one's.
 second::Settlement compare(Group& group, const Cell& cell, const Lengths& lengths) {
@@ -61,6 +72,7 @@ second::Settlement compare(Group& group, const Cell& cell, const Lengths& length
     }
     if (network.slice() != want.network) different += ", the network differs";
     if (!network.edges_stand()) different += ", a byte outside the network is written";
+    if (want.verdict != NK_REFUSED) different += network_difference(q, network.data(), want);
     const bool same = different.empty();
     group.check(same, same ? "" : numbers_of(q) + lengths_of(before), same ? "" : different.substr(2));
     verdicts[want.verdict]++;

@@ -40,6 +40,47 @@ inline int wrong_row(const Request& q, const Reading& network) {
     return -1;
 }
 
+// "a literal or a label breaks the form": there is no literal from 2n on, and
+// "a label is the lowest terminal of its net", where "equal labels mean one
+// net".
+inline bool has_form(const Request& q, const Reading& network) {
+    for (unsigned literal : network.literals) {
+        if (literal >= 2 * q.n) return false;
+    }
+    for (unsigned label : network.labels) {
+        std::size_t lowest = 0;
+        while (network.labels[lowest] != label) lowest++;
+        if (label != lowest) return false;
+    }
+    return true;
+}
+
+// What checking a network gives: 0 does, 1 wrong, 2 refused; and 0, the lowest
+// wrong row, or the refusal.
+struct NetworkCheck {
+    unsigned answer;
+    unsigned number;
+};
+
+// "Checking a network", given as r, 7 literals and 16 labels: "13 if its r
+// isn't the request's, or a literal or a label breaks the form. Otherwise
+// "does", or the lowest wrong row." "Array entries past r literals and N labels
+// are [...] unread in one that we are given."
+inline NetworkCheck check_network(const Request& q, const std::vector<std::uint8_t>& bytes) {
+    const int refused = refusal(q);
+    if (refused != 0) return {2, unsigned(refused)};
+    if (bytes[0] != q.r) return {2, 13};
+    Reading network = {0, {}, {}};
+    for (std::size_t s = 0; s < q.r; s++) network.literals.push_back(bytes[1 + s]);
+    for (std::size_t i = 0; i < std::size_t(terminals(q)); i++) {
+        network.labels.push_back(bytes[8 + i]);
+    }
+    if (!has_form(q, network)) return {2, 13};
+    const int row = wrong_row(q, network);
+    if (row >= 0) return {1, unsigned(row)};
+    return {0, 0};
+}
+
 // What settling gives: 0 least, 1 works, 2 fails, 3 refused; the number that
 // goes with it; r, 7 literals and 16 labels; and what it leaves in the slices.
 struct Settlement {
