@@ -12,6 +12,8 @@ ghost use mathlib.Core.List.{[], _∷_};
 ghost use lib.ListN.{length, getD};
 ghost use Rattle.request.specs.Numbers.{refusalOf};
 ghost use Rattle.request.specs.Line.{asked, requestNumber, requestValues};
+ghost use Rattle.network.specs.Networks.{Does};
+ghost use Rattle.network.specs.Value.{listed};
 ghost use Rattle.network.specs.Check.{checkedNumber, checkedValues};
 ghost use Rattle.network.specs.Least.{LeastFor, MoreThan};
 ghost use Rattle.size.specs.File.{sizeValues, writeNumber, writeValues, fileWritten};
@@ -90,6 +92,7 @@ pub extern "C" fn nk_check_network(
 ) -> u32
     ensures answer { λ x. ⌜ x ≡ checkCode (checkedNumber (asked n table r m) (networkOf (now (network .entry)))) (checkedValues (asked n table r m) (networkOf (now (network .entry)))) ⌝ }
     ensures number { λ _. ⌜ now (number .exit) ≡ checkDetail (checkedNumber (asked n table r m) (networkOf (now (network .entry)))) (checkedValues (asked n table r m) (networkOf (now (network .entry)))) ⌝ }
+    ensures does { λ x. ⌜ (x ≡ 0 → Does (asked n table r m) (listed r (networkOf (now (network .entry))))) ⌝ }
 {
     let w = network_bytes::network_of(*network);
     match network_check::check_network(Request { n, table, r, m }, w) {

@@ -1,13 +1,17 @@
 -- The answer of the check is handed on by its number and values; a refusal has a number other than 0. Assumes nothing.
-use mathlib.Core.Path.{_≡_, refl, sym, ap, ap₂, _∙_}
+use mathlib.Core.Path.{_≡_, refl, sym, ap, ap₂, _∙_, subst}
 use mathlib.Core.List.{[]}
 use Prim.Native.Nat.{ℕ}
+use native.Mathlib.Omega.{arith}
 use borrow.Author.Needs.{needs}
 use borrow.Author.Tests.{ne-eqb}
 use Rattle.request.specs.declared.Request.{Request}
 use Rattle.network.specs.declared.Network.{Network}
 use Rattle.network.specs.declared.Checked.{Checked}
 use Rattle.network.specs.declared.Checked.the-variants.{Refused}
+use Rattle.request.specs.Line.{asked}
+use Rattle.network.specs.Networks.{Does}
+use Rattle.network.specs.Value.{listed}
 use Rattle.network.specs.Check.{numberOf, valuesOf, checkedNumber, checkedValues, checkedOf}
 use Rattle.network.specs.Check.Numbers.{refusal-numbered}
 use Rattle.host.specs.Entries.{checkCode, checkDetail}
@@ -55,15 +59,25 @@ cast-number-2 c = search needs
 returns : tie.Need-returns
 returns c =
     let f = c .before .before in
-    handed _ _ _ (f .before .network-of .ensures) _ _ (c .enum-told .given .1) (f .check-network .ensures .0)
-    (f .check-network .ensures .1 .1 .0) (f .check-network .ensures .1 .1 .1)
+    let h = handed _ _ _ (f .before .network-of .ensures) _ _ (c .enum-told .given .1) (f .check-network .ensures .0)
+    (f .check-network .ensures .1 .1 .0) (f .check-network .ensures .1 .1 .1) in
+    let q = asked (f .before .before .before .args .n) (f .before .before .before .args .table) (f .before .before .before .args .r)
+    (f .before .before .before .args .m) in (
+      h .0,
+      (
+        h .1,
+        λ _. subst (λ (w : Network). Does q (listed (q .r) w)) (f .before .network-of .ensures)
+            (f .check-network .ensures .1 .0 .does .0 (c .enum-told .given .1) .1),
+      ),
+    )
 
 returns-2 : tie.Need-returns-2
 returns-2 c =
     let k = c .before in
     let f = k .before .before in
-    handed _ _ _ (f .before .network-of .ensures) _ _ (k .row .given .1) (f .check-network .ensures .0)
-    (f .check-network .ensures .1 .1 .0) (f .check-network .ensures .1 .1 .1)
+    let h = handed _ _ _ (f .before .network-of .ensures) _ _ (k .row .given .1) (f .check-network .ensures .0)
+    (f .check-network .ensures .1 .1 .0) (f .check-network .ensures .1 .1 .1) in
+    (h .0, (h .1, λ z. absurd (omega arith)))
 
 returns-3 : tie.Need-returns-3
 returns-3 c =
@@ -73,7 +87,7 @@ returns-3 c =
     (f .check-network .ensures .1 .1 .0) (f .check-network .ensures .1 .1 .1) in
     let d = numbered _ _ _ (f .before .network-of .ensures) _ _ (k .refusal .given .1) (f .check-network .ensures .0)
     (f .check-network .ensures .1 .1 .0) (f .check-network .ensures .1 .1 .1) _ refl in
-    (d ∙ h .0, h .1)
+    (d ∙ h .0, (h .1, λ z. absurd (omega arith)))
 
 pub nk-check-network-spec : {M : Type 1} → statement M
 nk-check-network-spec =

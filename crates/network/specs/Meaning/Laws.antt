@@ -1,25 +1,25 @@
 -- The tests that checking a network makes decide whether it does the job. An on row: the search from the sink finds a terminal
 -- exactly when a walk that short leads there. An off row: two terminals are in one part exactly when a walk joins them.
 -- Assumes nothing.
-use mathlib.Core.Path.{_≡_, refl, sym, ap, ap₂, _∙_, subst}
-use mathlib.Core.Bool.{Bool, true, false, not, _&&_, _||_, cond}
+use mathlib.Core.Path.{_≡_, refl, sym, ap, _∙_, subst}
+use mathlib.Core.Bool.{Bool, true, false, not, _&&_, cond}
 use mathlib.Core.List.{List, [], _∷_, _++_}
-use mathlib.Core.Logic.{_⊎_, inl, inr, ⊎-elim, _↔_}
-use Prim.Native.Nat.{ℕ, zero, suc, _+_, _-_, _*_, _/_, _^_, _≤_, _<_}
+use mathlib.Core.Logic.{_⊎_, inl, inr, ⊎-elim}
+use Prim.Native.Nat.{ℕ, zero, suc, _+_, _*_, _^_, _≤_, _<_}
 use native.Mathlib.Omega.{arith}
-use borrow.Author.Tests.{lt-ltb, le-ltb, ltb-true, ltb-false, eqb-true}
+use borrow.Author.Tests.{le-ltb, ltb-false}
 use lib.Dec.{T, T-not, not-T, eqb, leb, ltb, eqb→eq, eqb-refl, ltb→lt, lt→ltb, leb→le, le→leb}
-use lib.ListN.{length, getD, take, length-take}
+use lib.ListN.{length, getD}
 use lib.Seq.{getD-take, length-take-le}
-use Rattle.prelude.specs.Tests.{T-cases, T-eq, T-of, F-eq, and-in, and-l, and-r, or-l, or-r, or-cases, eq→eqb, ne→neqb, neqb→ne, eq?, cond-true, cond-false}
-use Rattle.prelude.specs.Lists.{allFrom, anyFrom, firstOf, Each}
+use Rattle.prelude.specs.Tests.{T-cases, T-of, F-eq, and-in, and-l, and-r, or-l, or-r, or-cases, eq→eqb, ne→neqb, neqb→ne, eq?, cond-true, cond-false}
+use Rattle.prelude.specs.Lists.{anyFrom, firstOf}
 use Rattle.prelude.specs.Lists.Laws.{any-out, any-in, all-out, all-in, first-is, first-none, first-before, first-holds, first-within, each-in, each-out}
 use Rattle.request.specs.Numbers.{Good, refusalOf}
 use Rattle.request.specs.Numbers.Laws.{refusal-good, good-refusal}
 use Rattle.rows.specs.Rows.{Row, rowAt, rowsOf}
 use Rattle.rows.specs.Rows.Laws.{rows-length, rows-at}
 use Rattle.request.specs.declared.Request.{Request}
-use Rattle.network.specs.Networks.{Net, source, sink, switchOf, other, literalAt, labelAt, switches, FormedAs, closedOn, Enters, Walk, DoneIf, Done, DoesAll, Does as DoesJob}
+use Rattle.network.specs.Networks.{Net, source, sink, switchOf, other, literalAt, labelAt, closedOn, Walk, DoneIf, Done, DoesAll}
 use Rattle.network.specs.Networks.Laws.{walk-append}
 use Rattle.network.specs.Check.{atSink, leads, touching, nearer, near, move, part, apart, rightIf, rowRight, labelIn, literalsLow, labelsLowest, fitting, firstWrong, rowsAnswer, checkedOf}
 use Rattle.network.specs.Value.{listed}
@@ -380,3 +380,10 @@ module _ (q : Request) (w : Network) where
               (λ p f. n (fitting-accepted l7 l16 (good-of p) f)),
         );
       }
+
+-- what an answer means fixes it, but for the number of a refusal
+pub means-one : (q : Request) (w : Network) (x y : Checked) → Means q w x → Means q w y
+    → (x ≡ y) ⊎ (((j : ℕ) × (x ≡ Refused j)) × ((k : ℕ) × (y ≡ Refused k)))
+means-one q w does y a b = inl (sym (b .does .1 (a .does .0 refl)))
+means-one q w (Wrong k) y a b = inl (sym (b .wrong k .1 (a .wrong k .0 refl)))
+means-one q w (Refused k) y a b = inr ((k, refl), b .refused .1 (a .refused .0 (k, refl)))

@@ -6,7 +6,9 @@ use native.Mathlib.Omega.{arith}
 use Rattle.request.specs.declared.Reading.{Reading}
 use Rattle.request.specs.declared.Reading.the-variants.{Taken, Refused as requestRefused}
 use Rattle.request.specs.Line.{requestOf}
+use Rattle.request.specs.declared.Request.{Request}
 use Rattle.network.specs.declared.Network.{Network}
+use Rattle.network.specs.Least.Laws.{least-unique}
 use Rattle.refutation.specs.Refutation.{Lent}
 use Rattle.reports.specs.Reports.{refusedText, failsText, worksText, leastText}
 use Rattle.settle.specs.declared.Verdict.{Verdict}
@@ -48,3 +50,16 @@ module _ (request answer refutation : List ℕ) (s : Lent) where
   unfolding reportText
   report-least text e b =
       subst (SaysLeast request) (sym e) (read-least (requestOf request) refl (subst BeginsLeast e b))
+
+-- two reports that begin with "least", for requests of one n, table and M, print one number
+pub says-one : (a b t u : List ℕ) (q p : Request) → requestOf a ≡ Taken q → requestOf b ≡ Taken p
+    → q .n ≡ p .n → q .table ≡ p .table → q .m ≡ p .m → (s : SaysLeast a t) (v : SaysLeast b u)
+    → (k : ℕ) × (t ≡ leastText k (s .network)) × (u ≡ leastText k (v .network))
+says-one a b t u q p e f n table m s v =
+    let g : s .asked ≡ q = (let x = s .taken in cc) in
+    let h : v .asked ≡ p = (let x = v .taken in cc) in
+    let same = least-unique (s .asked) (v .asked) (s .network) (v .network)
+    (ap (λ (x : Request). x .n) g ∙ n ∙ sym (ap (λ (x : Request). x .n) h))
+    (ap (λ (x : Request). x .table) g ∙ table ∙ sym (ap (λ (x : Request). x .table) h))
+    (ap (λ (x : Request). x .m) g ∙ m ∙ sym (ap (λ (x : Request). x .m) h)) (s .least) (v .least) in
+    (s .network .r, s .text-is, v .text-is ∙ ap (λ (k : ℕ). leastText k (v .network)) (sym same))
