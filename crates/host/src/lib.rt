@@ -10,8 +10,8 @@ use size::Answer;
 ghost use mathlib.Core.Path.{_≡_};
 ghost use mathlib.Core.List.{[], _∷_};
 ghost use lib.ListN.{length, getD};
-ghost use Rattle.request.specs.Numbers.{refusalOf};
-ghost use Rattle.request.specs.Line.{asked, requestNumber, requestValues};
+ghost use Rattle.request.specs.Numbers.{asked, refusalOf};
+ghost use Rattle.request.specs.Line.{requestNumber, requestValues};
 ghost use Rattle.network.specs.Networks.{Does};
 ghost use Rattle.network.specs.Value.{listed};
 ghost use Rattle.network.specs.Check.{checkedNumber, checkedValues};
@@ -241,7 +241,7 @@ pub extern "C" fn nk_settle(
     ensures number { λ _. ⌜ now (number .exit) ≡ verdictDetail (settleNumber (asked n table k m) (now (answer .entry))) (settleValues (asked n table k m) (now (answer .entry)) (now (refutation .entry)) (lent (now (literals .entry)) (now (pairs .entry)) (now (added .entry)) (now (values .entry)))) ⌝ }
     ensures network { λ _. ⌜ now (network .exit) ≡ networkBytes (settlement (asked n table k m) (now (answer .entry)) (now (refutation .entry)) (lent (now (literals .entry)) (now (pairs .entry)) (now (added .entry)) (now (values .entry))) .network) ⌝ }
     ensures slices { λ _. ⌜ lent (now (literals .exit)) (now (pairs .exit)) (now (added .exit)) (now (values .exit)) ≡ settleLeaves (asked n table k m) (now (answer .entry)) (now (refutation .entry)) (lent (now (literals .entry)) (now (pairs .entry)) (now (added .entry)) (now (values .entry))) ⌝ }
-    ensures least { λ x. ⌜ (x ≡ 0 → LeastFor (asked n table k m) (settlement (asked n table k m) (now (answer .entry)) (now (refutation .entry)) (lent (now (literals .entry)) (now (pairs .entry)) (now (added .entry)) (now (values .entry))) .network)) ⌝ }
+    ensures least { λ x. ⌜ (x ≡ 0 → LeastFor (asked n table k m) (networkOf (now (network .exit)))) ⌝ }
 {
     let settled = settle::settle(
         Request { n, table, r: k, m },

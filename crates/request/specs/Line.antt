@@ -21,10 +21,6 @@ abbrev pub valuesOf : Reading → List ℕ
 valuesOf (Taken q) = q .n ∷ q .table ∷ q .r ∷ q .m ∷ []
 valuesOf (Refused k) = []
 
--- the request that four numbers make, in the order of the values: what a caller asks who hands a request over as numbers
-abbrev pub asked : ℕ → ℕ → ℕ → ℕ → Request
-asked n table r m = record { n = n; table = table; r = r; m = m }
-
 -- a byte that is a digit, 0 to 9
 abbrev pub digit : ℕ → Bool
 digit b = leb 48 b && leb b 57

@@ -5,6 +5,10 @@ use lib.Dec.{leb, ltb}
 use Rattle.request.specs.declared.Request.{Request}
 pub mod Laws
 
+-- the request that a caller asks who hands it over as numbers: n, the table, r and M, in this order
+abbrev pub asked : ℕ → ℕ → ℕ → ℕ → Request
+asked n table r m = record { n = n; table = table; r = r; m = m }
+
 -- "n is 1 to 4 inputs, r is 0 to 7 switches, M is 0 to 7"; no table bit at or above 2^n
 pub record Good (q : Request) : Type 0 where
   pub n-low : 1 ≤ q .n

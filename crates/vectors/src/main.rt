@@ -274,24 +274,20 @@ fn small() {
     );
 }
 
-// Two added clauses of a text over six original ones, the ids around them, and a third that was deleted; then pairs that leave the
-// text or their slice, also where a sum of offset and length, or of C and a, is past 32 bits.
+// An original clause of a text over six, an added one, one that was deleted, one past a; then a and pairs whose sums are past 32 bits,
+// a pair that ends with the text, and half a pair.
 fn parts() {
     let text = b"7 1 -2 0 5 6 0\n8 -1 0 7 0\n9 3 0 8 0\n";
     let pairs = [2u32, 4, 17, 2, 29, 0];
     show_part(text, &pairs, 6, 3, 6);
-    show_part(text, &pairs, 6, 3, 7);
     show_part(text, &pairs, 6, 3, 8);
     show_part(text, &pairs, 6, 3, 9);
-    show_part(text, &pairs, 6, 3, 10);
     show_part(text, &pairs, 6, 1, 8);
-    show_part(text, &pairs, 6, 9, 10);
     show_part(text, &pairs, 7, 4294967295, 8);
-    let outside = [28u32, 8, 29, 8, 4294967295, 4294967295, 36];
-    show_part(text, &outside, 0, 4, 1);
-    show_part(text, &outside, 0, 4, 2);
-    show_part(text, &outside, 0, 4, 3);
-    show_part(text, &outside, 0, 4, 4);
+    let outside = [28u32, 8, 4294967295, 4294967295, 36];
+    show_part(text, &outside, 0, 3, 1);
+    show_part(text, &outside, 0, 3, 2);
+    show_part(text, &outside, 0, 3, 3);
 }
 
 fn main() {

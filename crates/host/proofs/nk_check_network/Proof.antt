@@ -9,7 +9,7 @@ use Rattle.request.specs.declared.Request.{Request}
 use Rattle.network.specs.declared.Network.{Network}
 use Rattle.network.specs.declared.Checked.{Checked}
 use Rattle.network.specs.declared.Checked.the-variants.{Refused}
-use Rattle.request.specs.Line.{asked}
+use Rattle.request.specs.Numbers.{asked}
 use Rattle.network.specs.Networks.{Does}
 use Rattle.network.specs.Value.{listed}
 use Rattle.network.specs.Check.{numberOf, valuesOf, checkedNumber, checkedValues, checkedOf}

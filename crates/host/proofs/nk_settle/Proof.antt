@@ -9,7 +9,10 @@ use Rattle.settle.specs.declared.Settlement.{Settlement}
 use Rattle.settle.specs.declared.Verdict.the-variants.{Least}
 use Rattle.network.specs.Least.{LeastFor}
 use Rattle.settle.specs.Settle.{verdictNumber, verdictValues, settleNumber, settleValues, settlement, settleLeaves}
-use Rattle.network_bytes.specs.Bytes.{networkBytes}
+use Rattle.network_bytes.specs.Bytes.{networkBytes, networkOf}
+use Rattle.network_bytes.specs.Bytes.Laws.{bytes-back}
+use lib.ListN.{length}
+use Rattle.settle.specs.Settle.Meaning.{least-arrays}
 use Rattle.host.specs.Entries.{verdictCode, verdictDetail}
 use Rattle.host.specs.Entries.Laws.{code-least}
 use Rattle.host.proofs.nk_settle.Statement.{statement}
@@ -20,20 +23,31 @@ module _ (q : Request) (answer refutation : List ℕ) (before : Lent) (x : Settl
     (x-is : x ≡ settlement q answer refutation before) (l-is : l ≡ settleLeaves q answer refutation before)
     (least : x .verdict ≡ Least → LeastFor q (x .network)) (number-is : verdictNumber (x .verdict) ≡ settleNumber q answer)
     (values-are : verdictValues (q .r) (x .verdict) ≡ settleValues q answer refutation before) where
+  -- the bytes of a least network are that network
+  back : x .verdict ≡ Least → (bytes : List ℕ) → bytes ≡ networkBytes (x .network) → networkOf bytes ≡ x .network
+  back e bytes b =
+      let a = least-arrays q answer refutation before (ap (λ (y : Settlement). y .verdict) (sym x-is) ∙ e) in
+      ap networkOf b
+      ∙ bytes-back (x .network) (ap (λ (y : Settlement). length (y .network .literals)) x-is ∙ a .0)
+      (ap (λ (y : Settlement). length (y .network .labels)) x-is ∙ a .1)
+
   handed : (code : ℕ) → code ≡ verdictCode (verdictValues (q .r) (x .verdict))
       → (number : ℕ) → number ≡ verdictDetail (verdictNumber (x .verdict)) (verdictValues (q .r) (x .verdict))
       → (bytes : List ℕ) → bytes ≡ networkBytes (x .network)
       → (code ≡ verdictCode (settleValues q answer refutation before))
       × ((number ≡ verdictDetail (settleNumber q answer) (settleValues q answer refutation before))
       × ((bytes ≡ networkBytes (settlement q answer refutation before .network))
-      × ((l ≡ settleLeaves q answer refutation before) × (code ≡ 0 → LeastFor q (settlement q answer refutation before .network)))))
+      × ((l ≡ settleLeaves q answer refutation before) × (code ≡ 0 → LeastFor q (networkOf bytes)))))
   handed code c number n bytes b = (
     c ∙ ap verdictCode values-are,
     (
       n ∙ ap₂ verdictDetail number-is values-are,
       (
         b ∙ ap (λ (y : Settlement). networkBytes (y .network)) x-is,
-        (l-is, λ z. subst (λ (y : Settlement). LeastFor q (y .network)) x-is (least (code-least (q .r) (x .verdict) (sym c ∙ z)))),
+        (
+          l-is,
+          λ z. let e = code-least (q .r) (x .verdict) (sym c ∙ z) in subst (LeastFor q) (sym (back e bytes b)) (least e),
+        ),
       ),
     ),
   )

@@ -18,8 +18,8 @@ use Rattle.prelude.specs.Lists.Laws.{all-in, all-out}
 use Rattle.request.specs.declared.Request.{Request}
 use Rattle.request.specs.declared.Reading.{Reading}
 use Rattle.request.specs.declared.Reading.the-variants.{Taken, Refused}
-use Rattle.request.specs.Line.{numberOf, valuesOf, asked, digit, digits, runEnd, endedBy, single, isTable, tableAt, numbersRefusal, requestAt, end1, end2, end3, end4, lineForm, requestNumber, requestIn, requestValues, requestOf, numbersOf, Run, Digits, Bits, Ends}
-use Rattle.request.specs.Numbers.{Good}
+use Rattle.request.specs.Line.{numberOf, valuesOf, digit, digits, runEnd, endedBy, single, isTable, tableAt, numbersRefusal, requestAt, end1, end2, end3, end4, lineForm, requestNumber, requestIn, requestValues, requestOf, numbersOf, Run, Digits, Bits, Ends}
+use Rattle.request.specs.Numbers.{asked, Good}
 
 -- a byte of a digit's numbers is a digit
 digit-yes : (b : ℕ) → 48 ≤ b → b ≤ 57 → digit b ≡ true

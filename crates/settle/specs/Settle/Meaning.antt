@@ -36,15 +36,21 @@ decoded-sixteen : (n r : ℕ) (α : Assignment) → r ≤ 7 → length (decoded 
 unfolding decoded
 decoded-sixteen n r α h = simp (length-append, length-tab, length-replicate) (omega arith)
 
+decoded-arrays : (q : Request) (answer : List ℕ) → readingOf q answer .refusal ≡ 0
+    → (length (readingOf q answer .network .literals) ≡ 7) × (length (readingOf q answer .network .labels) ≡ 16)
+decoded-arrays q answer taken =
+    let w = taken-describes q answer taken .network in
+    let h = refusal-good q (taken-request q answer taken) .r-high in (
+      ap (λ (x : Network). length (x .literals)) w ∙ decoded-seven (q .n) (q .r) (assignmentIn q answer) h,
+      ap (λ (x : Network). length (x .labels)) w ∙ decoded-sixteen (q .n) (q .r) (assignmentIn q answer) h,
+    )
+
 -- what the check of a decoded network means
 pub decoded-means : (q : Request) (answer : List ℕ) → readingOf q answer .refusal ≡ 0
     → Means q (readingOf q answer .network) (checkedOf q (readingOf q answer .network))
 decoded-means q answer taken =
-    let w = taken-describes q answer taken .network in
-    let h = refusal-good q (taken-request q answer taken) .r-high in
-    checked-means q (readingOf q answer .network)
-    (ap (λ (x : Network). length (x .literals)) w ∙ decoded-seven (q .n) (q .r) (assignmentIn q answer) h)
-    (ap (λ (x : Network). length (x .labels)) w ∙ decoded-sixteen (q .n) (q .r) (assignmentIn q answer) h)
+    let a = decoded-arrays q answer taken in
+    checked-means q (readingOf q answer .network) (a .0) (a .1)
 
 -- the network check says "does" of a decoded network exactly where it does the job
 pub does-exactly : (q : Request) (answer : List ℕ) → readingOf q answer .refusal ≡ 0
@@ -76,8 +82,19 @@ module _ (q : Request) (answer refutation : List ℕ) (s : Lent) where
         least = none-fewer (t .below);
       }
 
-  -- where settling says "least", the network that it hands back has k switches and does the job, and none of fewer does
+  -- where settling says "least", the network that it hands back is the decoded one
+  least-network : settlement q answer refutation s .verdict ≡ Least → settlement q answer refutation s .network ≡ readingOf q answer .network
+  least-network e = ap (λ (x : Settlement). x .network) (told-least q answer refutation s (least-told q answer refutation s e))
+
+  -- so it fills its arrays
+  pub least-arrays : settlement q answer refutation s .verdict ≡ Least
+      → (length (settlement q answer refutation s .network .literals) ≡ 7) × (length (settlement q answer refutation s .network .labels) ≡ 16)
+  least-arrays e =
+      let a = decoded-arrays q answer (least-told q answer refutation s e .taken) in (
+        ap (λ (x : Network). length (x .literals)) (least-network e) ∙ a .0,
+        ap (λ (x : Network). length (x .labels)) (least-network e) ∙ a .1,
+      )
+
+  -- and it has k switches and does the job, and none of fewer does
   pub least-for : settlement q answer refutation s .verdict ≡ Least → LeastFor q (settlement q answer refutation s .network)
-  least-for e =
-      let t = least-told q answer refutation s e in
-      subst (LeastFor q) (sym (ap (λ (x : Settlement). x .network) (told-least q answer refutation s t))) (told-for t)
+  least-for e = subst (LeastFor q) (sym (least-network e)) (told-for (least-told q answer refutation s e))
