@@ -5,7 +5,7 @@ use Prim.Native.Nat.{ℕ, _^_, _<_}
 use Rattle.request.specs.Numbers.{Good}
 use Rattle.rows.specs.Rows.{rowAt}
 use Rattle.request.specs.declared.Request.{Request}
-use Rattle.network.specs.Networks.{FormedAs, Done, DoesAll, Does as DoesJob}
+use Rattle.network.specs.Networks.{FormedAs, Done, Does as DoesJob}
 use Rattle.network.specs.Value.{listed}
 use Rattle.network.specs.declared.Network.{Network}
 use Rattle.network.specs.declared.Checked.{Checked}

@@ -9,7 +9,6 @@ use Rattle.request.specs.declared.Request.{Request}
 use Rattle.request.specs.Line.{requestOf}
 use Rattle.refutation.specs.Refutation.{Lent}
 use Rattle.reports.specs.Reports.{refusedText, failsText, worksText, leastText}
-use Rattle.settle.specs.declared.Settlement.{Settlement}
 use Rattle.settle.specs.declared.Verdict.{Verdict}
 use Rattle.settle.specs.declared.Verdict.the-variants.{Least, Works, Fails, Refused}
 use Rattle.settle.specs.Settle.{settlement, settleLeaves}

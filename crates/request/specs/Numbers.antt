@@ -1,5 +1,5 @@
 -- A request as numbers. Assumes nothing.
-use mathlib.Core.Bool.{Bool, not, _&&_, cond}
+use mathlib.Core.Bool.{not, _&&_, cond}
 use Prim.Native.Nat.{ℕ, _^_, _≤_, _<_}
 use lib.Dec.{leb, ltb}
 use Rattle.request.specs.declared.Request.{Request}

@@ -1,5 +1,5 @@
 -- Outcomes by their code, and by their number. Assumes nothing.
-use mathlib.Core.Path.{_≡_, refl, ap, _∙_}
+use mathlib.Core.Path.{_≡_, refl, ap}
 use mathlib.Core.Logic.{⊎-elim}
 use Prim.Native.Nat.{ℕ}
 use native.Mathlib.Omega.{arith}

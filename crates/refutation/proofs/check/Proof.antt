@@ -13,7 +13,7 @@ use Rattle.cnf.specs.Cnf.{Satisfiable}
 use Rattle.request.specs.declared.Request.{Request}
 use Rattle.network.specs.Least.{MoreThan}
 use Rattle.store.specs.declared.Stored.{Stored}
-use Rattle.store.specs.Store.{signs, storedFormula, storedVariables, storeRefusal, storeSizes, storedLiterals, storedPairs}
+use Rattle.store.specs.Store.{signs, storedFormula, storedVariables, storeSizes, storedLiterals, storedPairs}
 use Rattle.store.specs.Store.Laws.{sizes-refusal, store-taken}
 use Rattle.store.specs.Store.Promise.{Promise, promise}
 use Rattle.lrat.specs.Bytes.{zeros, held}

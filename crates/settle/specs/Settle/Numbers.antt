@@ -10,14 +10,13 @@ use borrow.Author.Tests.{eq-eqb, ne-eqb}
 use Rattle.prelude.specs.Tests.{eq?}
 use Rattle.request.specs.declared.Request.{Request}
 use Rattle.network.specs.declared.Network.{Network}
-use Rattle.network.specs.declared.Checked.{Checked}
-use Rattle.network.specs.declared.Checked.the-variants.{Does as does, Wrong, Refused as formRefused}
-use Rattle.network.specs.Check.{firstWrong, rowsAnswer, checkedOf}
+use Rattle.network.specs.declared.Checked.the-variants.{Does as does, Wrong}
+use Rattle.network.specs.Check.{firstWrong, rowsAnswer}
 use Rattle.answer.specs.Reading.{readingOf}
 use Rattle.lrat.specs.Outcome.{outcomeNumber}
 use Rattle.lrat.specs.declared.Outcome.{Outcome}
 use Rattle.lrat.specs.declared.Outcome.the-variants.{None, Refused as outcomeRefused}
-use Rattle.refutation.specs.Refutation.{Lent, checkNumber, checkAnswer}
+use Rattle.refutation.specs.Refutation.{Lent, checkAnswer}
 use Rattle.refutation.specs.Refutation.Laws.{answer-number, answer-numbered}
 use Rattle.settle.specs.declared.Settlement.{Settlement}
 use Rattle.settle.specs.declared.Verdict.{Verdict}
