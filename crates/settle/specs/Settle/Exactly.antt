@@ -149,7 +149,7 @@ module _ (q : Request) (answer refutation : List ℕ) (s : Lent) where
       → judged checked (verdictBelow q refutation s) read .verdict ≡ settlement q answer refutation s .verdict
   taken-verdict z = ap (λ (x : Settlement). x .verdict) (settles-judged q answer refutation s z checked refl .says)
 
-  refused-verdict : (readingOf q answer .refusal ≡ 0 → ⊥)
+  pub refused-verdict : (readingOf q answer .refusal ≡ 0 → ⊥)
       → Refused (readingOf q answer .refusal) ≡ settlement q answer refutation s .verdict
   refused-verdict d = ap (λ (x : Settlement). x .verdict) (settles-refused q answer refutation s d .says)
 

@@ -22,8 +22,8 @@ use Rattle.settle.specs.declared.Settlement.{Settlement}
 use Rattle.settle.specs.declared.Verdict.{Verdict}
 use Rattle.settle.specs.declared.Verdict.the-variants.{Least, Works, Fails, Refused}
 use Rattle.settle.specs.Settle.{verdictNumber, verdictValues, smaller, outcomeVerdict, verdictBelow, judged, settleNumber, valuesBelow, settleValues, settlement}
-use Rattle.settle.specs.Settle.Laws.{settles-refused, settles-judged}
-use Rattle.settle.specs.Settle.Exactly.{decoded-rows}
+use Rattle.settle.specs.Settle.Laws.{settles-judged}
+use Rattle.settle.specs.Settle.Exactly.{decoded-rows, refused-verdict}
 
 -- the verdict that a refutation leads to
 outcome-zero : (o : Outcome) → verdictNumber (outcomeVerdict o) ≡ 0
@@ -47,9 +47,9 @@ rows-values false k row v w = refl
 
 -- the verdict where the network does the job
 module _ (q : Request) (refutation : List ℕ) (s : Lent) where
-  below-zero : verdictNumber (verdictBelow q refutation s) ≡ 0
+  below-unrefused : verdictNumber (verdictBelow q refutation s) ≡ 0
   unfolding verdictBelow
-  below-zero =
+  below-unrefused =
       ⊎-elim (λ (z : q .r ≡ 0). rw (eq-eqb (q .r) 0 z))
       (λ (d : q .r ≡ 0 → ⊥). rw (ne-eqb (q .r) 0 d) (outcome-zero (checkAnswer (smaller q) refutation s .outcome)))
       (eq? (q .r) 0)
@@ -74,10 +74,6 @@ module _ (q : Request) (answer refutation : List ℕ) (s : Lent) where
       → judged (rowsAnswer q read) (verdictBelow q refutation s) read .verdict ≡ settlement q answer refutation s .verdict
   by-rows z = ap (λ (x : Settlement). x .verdict) (settles-judged q answer refutation s z (rowsAnswer q read) (decoded-rows q answer z) .says)
 
-  refused-verdict : (readingOf q answer .refusal ≡ 0 → ⊥)
-      → Refused (readingOf q answer .refusal) ≡ settlement q answer refutation s .verdict
-  refused-verdict d = ap (λ (x : Settlement). x .verdict) (settles-refused q answer refutation s d .says)
-
   -- the number of the verdict is the rule's
   pub settle-number : verdictNumber (settlement q answer refutation s .verdict) ≡ settleNumber q answer
   unfolding settleNumber rowsAnswer
@@ -85,9 +81,9 @@ module _ (q : Request) (answer refutation : List ℕ) (s : Lent) where
       ⊎-elim
       (λ (z : readingOf q answer .refusal ≡ 0).
       ap verdictNumber (sym (by-rows z))
-      ∙ rows-zero (ltb (firstWrong q read) (2 ^ (q .n))) (firstWrong q read) (verdictBelow q refutation s) read (below-zero q refutation s)
+      ∙ rows-zero (ltb (firstWrong q read) (2 ^ (q .n))) (firstWrong q read) (verdictBelow q refutation s) read (below-unrefused q refutation s)
       ∙ sym z)
-      (λ (d : readingOf q answer .refusal ≡ 0 → ⊥). ap verdictNumber (sym (refused-verdict d)))
+      (λ (d : readingOf q answer .refusal ≡ 0 → ⊥). ap verdictNumber (sym (refused-verdict q answer refutation s d)))
       (eq? (readingOf q answer .refusal) 0)
 
   -- and so are the values
@@ -101,7 +97,7 @@ module _ (q : Request) (answer refutation : List ℕ) (s : Lent) where
       ∙ rows-values (ltb (firstWrong q read) (2 ^ (q .n))) (q .r) (firstWrong q read) (verdictBelow q refutation s) read
       ∙ ap (cond (ltb (firstWrong q read) (2 ^ (q .n))) (2 ∷ q .r ∷ firstWrong q read ∷ [])) (below-values q refutation s)))
       (λ (d : readingOf q answer .refusal ≡ 0 → ⊥).
-      rw (ne-eqb (readingOf q answer .refusal) 0 d) (ap (verdictValues (q .r)) (sym (refused-verdict d))))
+      rw (ne-eqb (readingOf q answer .refusal) 0 d) (ap (verdictValues (q .r)) (sym (refused-verdict q answer refutation s d))))
       (eq? (readingOf q answer .refusal) 0)
 
 -- no two different verdicts have equal number and values
