@@ -1,12 +1,18 @@
 // Draws the network of a report as an SVG picture.
 //
-//   draw [n] < REPORT > PICTURE
+//   draw [TABLE M] < REPORT > PICTURE
 //
 // Reads the text of a report that has a network, "least k" or "works k
 // number". Nets are circles with the net's number, switches are lines with
-// their literals. With the number n of inputs, literals are shown as inputs a,
-// b, c, d and complements a', b', c', d'; without it as the report's numbers.
-// The exit status is 1 where the text is not such a report.
+// their literals. The caption has the verdict, and for "works" says in words
+// what is missing. With the table and M of the request they stand below the
+// verdict, and literals are shown as inputs a, b, c, d and complements a', b',
+// c', d'; without them as the report's numbers, since how many inputs there are
+// is not in the report.
+//
+// The exit status is 0 for a picture, 1 where the text is not such a report, or
+// not one for such a table, or standard output cannot be written, and 2 for
+// other words.
 //
 // The source is at the left, the sink at the right, and each other net between
 // them by its distances from both. How high it is comes from trying a few
@@ -34,8 +40,23 @@ struct Switch {
     int to;
 };
 
+// What the report is of, as the command's words say; the table is empty where
+// none are given.
+struct Request {
+    std::string table;
+    unsigned m = 0;
+
+    // 0 where the table is not known
+    unsigned inputs() const {
+        unsigned n = 0;
+        while (table.size() >> (n + 1) != 0) n++;
+        return n;
+    }
+};
+
 struct Network {
-    std::string verdict;
+    bool least = false;    // else "works"
+    unsigned missing = 0;  // for "works" the refusal of the refutation
     std::vector<Switch> switches;
     int sink = 0;  // the sink's net; the source's is 0
 };
@@ -47,25 +68,44 @@ bool read_line(std::string& line) {
     return c == '\n';
 }
 
-// A report's numbers are small: k is at most 7, a literal below 8, a net at
-// most 15.
-bool read_network(Network& network) {
-    std::string line;
-    unsigned k, number;
+// What each refusal of a refutation that a report can have says.
+const std::map<unsigned, std::string> refusals{
+    {7, "too little memory is lent for the clauses' literals"},
+    {8, "too little memory is lent for the clauses' places"},
+    {14, "too little memory is lent for the variables' values"},
+    {15, "the refutation is over the limit of 16,777,215 bytes"},
+    {16, "a line of the refutation has not its form"},
+    {17, "a clause in the refutation has not the next number"},
+    {18, "a clause in the refutation has a wrong literal"},
+    {19, "the refutation names a clause that does not stand"},
+    {20, "a hint in the refutation sets nothing"},
+    {21, "hints in the refutation lead to no conflict"},
+    {22, "too little memory is lent for the added clauses"},
+    {23, "no refutation, or one that ends too early"},
+};
+
+// The first line; k is the number of switches.
+bool read_verdict(const std::string& line, Network& network, unsigned& k) {
     char rest;
-    if (!read_line(line)) return false;
-    if (std::sscanf(line.c_str(), "least %u%c", &k, &rest) != 1 &&
-        std::sscanf(line.c_str(), "works %u %u%c", &k, &number, &rest) != 2) {
-        return false;
-    }
-    if (k > 7) return false;
-    network.verdict = line;
+    network.least = std::sscanf(line.c_str(), "least %u%c", &k, &rest) == 1;
+    if (network.least) return k <= 7;
+    if (std::sscanf(line.c_str(), "works %u %u%c", &k, &network.missing, &rest) != 2) return false;
+    return k <= 7 && refusals.count(network.missing) != 0;
+}
+
+// A report's numbers are small: k is at most 7, a net at most 15, and literals
+// are below 2n.
+bool read_network(Network& network, unsigned literals) {
+    std::string line;
+    unsigned k;
+    char rest;
+    if (!read_line(line) || !read_verdict(line, network, k)) return false;
     for (unsigned s = 0; s < k; s++) {
         unsigned name, literal, from, to;
         if (!read_line(line)) return false;
         if (std::sscanf(line.c_str(), "%u %u %u %u%c", &name, &literal, &from, &to, &rest) != 4)
             return false;
-        if (name != s || literal > 7 || from > 15 || to > 15) return false;
+        if (name != s || literal >= literals || from > 15 || to > 15) return false;
         network.switches.push_back({literal, int(from), int(to)});
     }
     unsigned sink;
@@ -92,6 +132,9 @@ constexpr double apart = 44;   // between switches that join the same two nets
 constexpr double net_radius = 15;
 constexpr double label_width = 36;
 constexpr double label_height = 24;
+constexpr int caption_size = 15;
+constexpr double line_height = 20;  // of the caption
+constexpr double margin = 12;       // beside the caption
 
 // How many switches away each net is from one of them; nets that cannot be
 // reached are missing.
@@ -322,15 +365,22 @@ std::string literal_name(unsigned literal, unsigned n) {
     return std::string(1, char('a' + literal % n)) + (literal < n ? "" : "'");
 }
 
+std::string escaped(const std::string& text) {
+    std::string all;
+    for (char c : text)
+        all += c == '&' ? "&amp;" : c == '<' ? "&lt;" : c == '>' ? "&gt;" : std::string(1, c);
+    return all;
+}
+
 void print_text(Point at, const char* anchor, int size, const std::string& text) {
     std::printf("<text x=\"%.1f\" y=\"%.1f\" text-anchor=\"%s\" font-size=\"%d\">%s</text>\n", at.x,
-                at.y, anchor, size, text.c_str());
+                at.y, anchor, size, escaped(text).c_str());
 }
 
 void print_switch(std::size_t s, const Switch& about, const Curve& c, unsigned n) {
     const std::string name = literal_name(about.literal, n);
     std::printf("<g class=\"switch\"><title>switch %zu: %s, between the nets %d and %d</title>\n",
-                s, name.c_str(), about.from, about.to);
+                s, escaped(name).c_str(), about.from, about.to);
     if (c.from == c.to) {
         const double x = c.start.x, y = c.start.y, top = c.label.y;
         std::printf("<path d=\"M %.1f %.1f C %.1f %.1f %.1f %.1f %.1f %.1f\"/>\n", x, y, x - 60,
@@ -364,53 +414,113 @@ void print_net(int net, Point at, const Network& network) {
     std::printf("</g>\n");
 }
 
-void print_picture(const Network& network, unsigned n) {
-    const std::map<int, Point> places = Heights(network).best();
-    const std::vector<Curve> curves = curves_of(network, places);
-    Point low{0, 0}, high{0, 0};
-    const auto cover = [&](Point p) {
+std::vector<std::string> caption_of(const Network& network, const Request& request) {
+    const std::string k = std::to_string(network.switches.size());
+    std::vector<std::string> lines{(network.least ? "least " : "works ") + k};
+    if (!request.table.empty()) {
+        lines.push_back("table " + request.table + ", at most " + std::to_string(request.m) +
+                        (request.m == 1 ? " switch" : " switches") + " in series");
+    }
+    if (!network.least) {
+        lines.push_back("does the job; that fewer switches cannot is not shown:");
+        lines.push_back(refusals.at(network.missing));
+    }
+    return lines;
+}
+
+// The part of the plane that is shown.
+struct Frame {
+    Point low{0, 0};
+    Point high{0, 0};
+
+    void cover(Point p) {
         low = {std::min(low.x, p.x), std::min(low.y, p.y)};
         high = {std::max(high.x, p.x), std::max(high.y, p.y)};
-    };
-    for (const auto& [net, place] : places) cover(place);
-    for (const Curve& c : curves) cover(c.label);
-    // room for the words beside source and sink, and for the verdict above
-    low = {low.x - 85, low.y - 70};
-    high = {high.x + 85, high.y + 40};
+    }
+    double width() const { return high.x - low.x; }
+    double height() const { return high.y - low.y; }
+};
+
+// Room for the words beside source and sink, and for the caption above. Which
+// font it has is the viewer's choice; in a wide one a character takes three
+// fifths of the size.
+Frame frame_of(const std::map<int, Point>& places, const std::vector<Curve>& curves,
+               const std::vector<std::string>& caption) {
+    Frame frame;
+    for (const auto& [net, place] : places) frame.cover(place);
+    for (const Curve& c : curves) frame.cover(c.label);
+    frame.low = {frame.low.x - 85, frame.low.y - 50 - line_height * double(caption.size())};
+    frame.high = {frame.high.x + 85, frame.high.y + 40};
+    double needed = 0;
+    for (const std::string& line : caption)
+        needed = std::max(needed, 2 * margin + double(line.size()) * caption_size * 3 / 5);
+    const double more = std::max(0.0, needed - frame.width()) / 2;
+    frame.low.x -= more;
+    frame.high.x += more;
+    return frame;
+}
+
+void print_picture(const Network& network, const Request& request) {
+    const std::map<int, Point> places = Heights(network).best();
+    const std::vector<Curve> curves = curves_of(network, places);
+    const std::vector<std::string> caption = caption_of(network, request);
+    const Frame frame = frame_of(places, curves, caption);
     std::printf(
         "<svg xmlns=\"http://www.w3.org/2000/svg\" width=\"%.0f\" height=\"%.0f\" viewBox=\"%.1f "
         "%.1f %.1f %.1f\" "
         "font-family=\"sans-serif\">\n",
-        high.x - low.x, high.y - low.y, low.x, low.y, high.x - low.x, high.y - low.y);
+        frame.width(), frame.height(), frame.low.x, frame.low.y, frame.width(), frame.height());
     std::printf(
         "<style>.switch path { fill: none; stroke: #345; stroke-width: 2 } "
         ".switch rect { fill: white; stroke: #345 } "
         ".net circle { fill: white; stroke: black; stroke-width: 2 } "
         ".source circle, .sink circle { fill: #dde8f4 }</style>\n");
     std::printf("<rect x=\"%.1f\" y=\"%.1f\" width=\"%.1f\" height=\"%.1f\" fill=\"white\"/>\n",
-                low.x, low.y, high.x - low.x, high.y - low.y);
-    print_text({low.x + 12, low.y + 26}, "start", 16, network.verdict);
+                frame.low.x, frame.low.y, frame.width(), frame.height());
+    for (std::size_t i = 0; i < caption.size(); i++) {
+        const Point at{frame.low.x + margin, frame.low.y + 6 + line_height * double(i + 1)};
+        print_text(at, "start", caption_size, caption[i]);
+    }
     // nets last, over the ends of the lines
     for (std::size_t s = 0; s < curves.size(); s++)
-        print_switch(s, network.switches[s], curves[s], n);
+        print_switch(s, network.switches[s], curves[s], request.inputs());
     for (const auto& [net, place] : places) print_net(net, place, network);
     std::printf("</svg>\n");
+}
+
+// Whether the words are none, or a table and M.
+bool read_words(int argc, char** argv, Request& request) {
+    if (argc == 1) return true;
+    if (argc != 3) return false;
+    request.table = argv[1];
+    const std::size_t rows = request.table.size();
+    if (rows != 2 && rows != 4 && rows != 8 && rows != 16) return false;
+    if (request.table.find_first_not_of("01") != std::string::npos) return false;
+    const std::string bound = argv[2];
+    if (bound.size() != 1 || bound[0] < '0' || bound[0] > '7') return false;
+    request.m = unsigned(bound[0] - '0');
+    return true;
 }
 
 }  // namespace
 
 int main(int argc, char** argv) {
-    const std::string word = argc == 2 ? argv[1] : "";
-    const bool good = argc == 1 || (word.size() == 1 && word[0] >= '1' && word[0] <= '4');
-    if (!good) {
-        std::fprintf(stderr, "usage: draw [n] < REPORT > PICTURE\n");
+    Request request;
+    if (!read_words(argc, argv, request)) {
+        std::fprintf(stderr, "usage: draw [TABLE M] < REPORT > PICTURE\n");
         return 2;
     }
+    const bool known = !request.table.empty();
     Network network;
-    if (!read_network(network)) {
-        std::fprintf(stderr, "draw: the text is not a report with a network\n");
+    if (!read_network(network, known ? 2 * request.inputs() : 8)) {
+        std::fprintf(stderr, "draw: the text is not a report with a network%s\n",
+                     known ? " for this table" : "");
         return 1;
     }
-    print_picture(network, argc == 2 ? unsigned(word[0] - '0') : 0);
-    return std::fflush(stdout) == 0 ? 0 : 2;
+    print_picture(network, request);
+    if (std::fflush(stdout) != 0 || std::ferror(stdout) != 0) {
+        std::perror("draw: standard output cannot be written");
+        return 1;
+    }
+    return 0;
 }
