@@ -30,8 +30,11 @@
 
 namespace {
 
-// A refutation was seen to be 1.3 to 5.6 times as long as the binary proof that
-// it comes from, and trimming it again and again takes off up to two thirds.
+// How many times as long as the solver's binary proof its refutation is taken to
+// be at least. Converted in one pass it was seen to be 0.96 to 5.6 times as long,
+// and further passes take off up to two thirds; but a proof that is much longer
+// than the limit takes the converter long, and memory of which a small machine
+// has little.
 constexpr double least_growth = 0.6;
 
 // Seconds of --total for what comes after the search: the report, the picture
