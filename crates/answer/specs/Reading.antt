@@ -7,8 +7,7 @@ use lib.ListN.{length, replicate}
 use Rattle.request.specs.Numbers.{refusalOf}
 use Rattle.request.specs.declared.Request.{Request}
 use Rattle.network.specs.Value.{zeros}
-use Rattle.formula.specs.Count.{variableCount}
-use Rattle.formula.specs.Formula.{transitivity, choices}
+use Rattle.formula.specs.Count.{networkCount, valuesMost, variableCount}
 use Rattle.numeral.specs.Number.{byteAt}
 use Rattle.answer.specs.Lines.{lineEnd, standsAt, solutionLine, formAt}
 use Rattle.answer.specs.Values.{kept, namedFrom, complete, assigned, holding}
@@ -67,7 +66,7 @@ ended q l =
     cond (eqb (l .refusal) 0)
     (cond (eqb (l .phase) 2)
     (cond (complete (kept (q .n) (q .r)) (l .values))
-    (cond (holding q (length (transitivity (q .r)) + length (choices (q .n) (q .r))) (l .values))
+    (cond (holding q (networkCount (q .n) (q .r)) (l .values))
     (record { refusal = 0; network = decoded (q .n) (q .r) (assigned (l .values)) })
     (refusedWith 12))
     (refusedWith 11))
@@ -78,5 +77,5 @@ ended q l =
 unfoldable pub readingOf : Request → List ℕ → Decoded
 readingOf q t =
     cond (eqb (refusalOf q) 0)
-    (ended q (linesFrom (variableCount q) (kept (q .n) (q .r)) t (length t) 0 0 (replicate 176 0)))
+    (ended q (linesFrom (variableCount q) (kept (q .n) (q .r)) t (length t) 0 0 (replicate valuesMost 0)))
     (refusedWith (refusalOf q))

@@ -1,21 +1,21 @@
 -- The values that v lines name, kept for the X and L variables alone: 0 unnamed, 1 true, 2 false. Assumes nothing.
 use mathlib.Core.Bool.{Bool, true, false, not, _&&_, _||_, cond}
 use mathlib.Core.List.{List}
-use Prim.Native.Nat.{ℕ, zero, suc, _+_, _-_, _*_}
+use Prim.Native.Nat.{ℕ, zero, suc, _+_, _-_}
 use lib.Dec.{eqb, leb, ltb}
 use lib.ListN.{getD, set}
 use Rattle.prelude.specs.Lists.{allFrom}
 use Rattle.cnf.specs.Cnf.{Assignment, clauseHolds}
 use Rattle.request.specs.declared.Request.{Request}
-use Rattle.formula.specs.Formula.{P}
+use Rattle.formula.specs.Formula.{networkVariables}
 use Rattle.formula.specs.Number.{clauseOf}
 use Rattle.numeral.specs.Number.{byteAt, literalAt}
 use Rattle.answer.specs.declared.Named.{Named}
 pub mod Laws
 
--- the X and L variables are 1 to P + 2n·r
+-- the X and L variables
 abbrev pub kept : ℕ → ℕ → ℕ
-kept n r = P r + 2 * n * r
+kept n r = networkVariables n r
 
 -- values after a line, and whether it is refused (10)
 abbrev pub named : Bool → List ℕ → Named

@@ -7,6 +7,7 @@ use lib.IntN as Z
 use lib.IntN.{ℤ, negℤ}
 use Rattle.cnf.specs.declared.Literal.{Literal}
 pub mod Laws
+pub mod Parts
 
 -- x and −x
 abbrev pub pos : ℕ → Literal

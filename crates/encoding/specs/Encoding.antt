@@ -4,18 +4,16 @@ use mathlib.Core.Path.{_≡_, sym, subst}
 use mathlib.Core.Bool.{Bool, true, false, cond}
 use mathlib.Core.List.{List, [], _∷_, _++_}
 use mathlib.Core.Logic.{_↔_}
-use Prim.Native.Nat.{ℕ, _+_, _*_, _≤_}
+use Prim.Native.Nat.{ℕ, _+_}
 use Rattle.cnf.specs.Cnf.{Formula, Assignment, Sat, Satisfiable}
+use Rattle.cnf.specs.Cnf.Parts.{Sat-split, Sat-join}
 use Rattle.rows.specs.Rows.{Row, rowsOf}
 use Rattle.request.specs.declared.Request.{Request}
-use Rattle.request.specs.Numbers.{refusalOf}
-use Rattle.request.specs.Numbers.Laws.{refusal-good}
 use Rattle.network.specs.Networks.{Net, labelAt, switches, FormedAs, Formed, closedOn, DoneIf, DoesAll, Does}
 use Rattle.network.specs.Value.{listed}
-use Rattle.formula.specs.Formula.{P, transitivity, choices, onRow, offRow, rowVariables, rowClauses, rowsFrom, formula, formulaOf}
+use Rattle.formula.specs.Formula.{terminals, transitivity, choices, onRow, offRow, rowVariables, rowClauses, rowsFrom, formula, formulaOf, networkVariables}
 use Rattle.answer.specs.Decode.{decoded}
-use Rattle.answer.specs.Decode.Meaning.{Sat-split, decoded-formed}
-use Rattle.encoding.specs.Clauses.{Sat-join}
+use Rattle.answer.specs.Decode.Meaning.{decoded-formed}
 use Rattle.encoding.specs.Stands.{Stands, nets-hold, picks-hold, decoded-stands}
 use Rattle.encoding.specs.OnRow.{on-walk}
 use Rattle.encoding.specs.OffRow.{off-none}
@@ -24,20 +22,20 @@ use Rattle.encoding.specs.Values.{valued, joinedValues, chosenValues, ro
 -- ---- a satisfying assignment gives a network
 -- the clauses of the rows
 abbrev rowsClauses : Request → Formula
-rowsClauses q = rowsFrom (q .n) (q .r) (q .m) (P (q .r) + 2 * q .n * q .r) (rowsOf (q .n) (q .table))
+rowsClauses q = rowsFrom (q .n) (q .r) (q .m) (networkVariables (q .n) (q .r)) (rowsOf (q .n) (q .table))
 
 -- the three groups of clauses
 groups : (q : Request) (α : Assignment) → Sat α (formulaOf q)
-    → Sat α (transitivity (q .r)) × Sat α (choices (q .n) (q .r)) × Sat α (rowsClauses q)
+    → Sat α (transitivity (terminals (q .r))) × Sat α (choices (q .n) (terminals (q .r)) (q .r)) × Sat α (rowsClauses q)
 unfolding formulaOf formula
 groups q α s =
-    let a = Sat-split α (transitivity (q .r)) _ s in
-    let b = Sat-split α (choices (q .n) (q .r)) _ (a .1) in
+    let a = Sat-split α (transitivity (terminals (q .r))) _ s in
+    let b = Sat-split α (choices (q .n) (terminals (q .r)) (q .r)) _ (a .1) in
     (a .0, b .0, b .1)
 
 module _ (n r m : ℕ) (w : Net) (α : Assignment) (stands : Stands n r w α) where
   -- a row whose clauses hold is done
-  row-done : (B : ℕ) (row : Row) (on : Bool) → Sat α (cond on (onRow n r m B (row .value)) (offRow n r B (row .value)))
+  row-done : (B : ℕ) (row : Row) (on : Bool) → Sat α (cond on (onRow n r m B (row .value)) (offRow n (terminals r) r B (row .value)))
       → DoneIf on r m (closedOn row w) (labelAt w)
   row-done B row true s = on-walk n r m w α stands B row s
   row-done B row false s = off-none n r m w α stands B row s
@@ -72,33 +70,33 @@ satisfied-does q α s =
     let g = groups q α s in
     subst (λ (k : ℕ). DoesAll k (q .m) (made q α) (rowsOf (q .n) (q .table))) (sym (satisfied-switches q α s))
     (rows-done (q .n) (q .r) (q .m) (made q α) α (decoded-stands q α (g .0) (g .1))
-    (P (q .r) + 2 * q .n * q .r) (rowsOf (q .n) (q .table)) (g .2))
+    (networkVariables (q .n) (q .r)) (rowsOf (q .n) (q .table)) (g .2))
 
 -- ---- a network that does the job of some rows gives an assignment that satisfies their clauses
-does-satisfies : (n r m : ℕ) (rows : List Row) (w : Net) → r ≤ 7 → FormedAs n r w → DoesAll r m w rows
+does-satisfies : (n r m : ℕ) (rows : List Row) (w : Net) → FormedAs n r w → DoesAll r m w rows
     → Satisfiable (formula n r m rows)
 unfolding formula
-does-satisfies n r m rows w small form d =
+does-satisfies n r m rows w form d =
     let rest : List Bool = rowsValues r m w rows d in
     let values : List Bool = joinedValues r w ++ (chosenValues n r w ++ rest) in
-    let stands : Stands n r w (valued values) = values-stand n r w rest small form in (
+    let stands : Stands n r w (valued values) = values-stand n r w rest form in (
       valued values,
-      Sat-join (valued values) (transitivity r) _ (nets-hold n r w (valued values) stands)
-          (Sat-join (valued values) (choices n r) _ (picks-hold n r w (valued values) stands)
-          (rows-hold n r m w values stands (P r + 2 * n * r) rows d (rows-after n r w rest small))),
+      Sat-join (valued values) (transitivity (terminals r)) _ (nets-hold n r w (valued values) stands)
+          (Sat-join (valued values) (choices n (terminals r) r) _ (picks-hold n r w (valued values) stands)
+          (rows-hold n r m w values stands (networkVariables n r) rows d (rows-after n r w rest))),
     )
 
 -- "satisfiable exactly when some network of r switches does the job", said of a request's clauses
 abbrev pub FileMeans : Request → Type 0
 FileMeans q = Satisfiable (formulaOf q) ↔ ((w : Net) × (switches w ≡ q .r) × Formed q w × Does q w)
 
--- it holds of every request that is taken
-pub encoding : (q : Request) → refusalOf q ≡ 0 → FileMeans q
+-- it holds of every request
+pub encoding : (q : Request) → FileMeans q
 unfolding formulaOf
-encoding q good = (
+encoding q = (
   λ (α, s). (listed (q .r) (decoded (q .n) (q .r) α), satisfied-switches q α s, satisfied-formed q α s, satisfied-does q α s),
   λ (w, size, form, does).
-      does-satisfies (q .n) (q .r) (q .m) (rowsOf (q .n) (q .table)) w (refusal-good q good .r-high)
+      does-satisfies (q .n) (q .r) (q .m) (rowsOf (q .n) (q .table)) w
       (subst (λ (k : ℕ). FormedAs (q .n) k w) size form)
       (subst (λ (k : ℕ). DoesAll k (q .m) w (rowsOf (q .n) (q .table))) size does),
 )

@@ -14,7 +14,7 @@ use Rattle.prelude.specs.Lists.{tab}
 use Rattle.prelude.specs.Lists.Laws.{length-tab, getD-tab, each-then}
 use Rattle.rows.specs.Rows.{Row, rowsOf}
 use Rattle.request.specs.declared.Request.{Request}
-use Rattle.network.specs.Networks.{Net, source, sink, switchOf, other, literalAt, labelAt, switches, FormedAs, Formed, closedOn, Walk, DoneIf, Done, DoesAll, Does}
+use Rattle.network.specs.Networks.{terminals, Net, source, sink, switchOf, other, literalAt, labelAt, switches, FormedAs, Formed, closedOn, Walk, DoneIf, Done, DoesAll, Does}
 
 -- the number that a terminal of r switches has after the new switch: the sink's is two more
 unfoldable pub moved : ℕ → ℕ → ℕ
@@ -62,7 +62,7 @@ moved-old r t e l u z =
     (le? t (2 * r))
 
 -- each stays within the terminals
-moved-within : (r t : ℕ) → t < 2 * r + 2 → moved r t < 2 * suc r + 2
+moved-within : (r t : ℕ) → t < terminals r → moved r t < 2 * suc r + 2
 moved-within r t h =
     ⊎-elim (λ (k : t ≤ 2 * r). omega (arith, moved-low r t k))
     (λ (k : 2 * r < t). omega (arith, moved-high r t k))
@@ -95,7 +95,7 @@ literal-same (x ∷ l) (suc s) = literal-same l s
 
 module _ (n r : ℕ) (w : Net) (size : switches w ≡ r) (form : FormedAs n r w) where
   -- an old terminal's label moves as the terminals do
-  label-moved : (t : ℕ) → t < 2 * r + 2 → grownLabel r (labelAt w) (moved r t) ≡ moved r (labelAt w t)
+  label-moved : (t : ℕ) → t < terminals r → grownLabel r (labelAt w) (moved r t) ≡ moved r (labelAt w t)
   label-moved t h =
       let low = form .labels-low t h in
       ⊎-elim
@@ -115,7 +115,7 @@ module _ (n r : ℕ) (w : Net) (size : switches w ≡ r) (form : FormedAs n r w)
       ∙ ap₂ (λ (k x : ℕ). grownLabel k (labelAt w) x) size (let z : 0 + t ≡ t = omega arith in z)
 
   -- of an old terminal
-  grown-moved : (t : ℕ) → t < 2 * r + 2 → labelAt (grown w) (moved r t) ≡ moved r (labelAt w t)
+  grown-moved : (t : ℕ) → t < terminals r → labelAt (grown w) (moved r t) ≡ moved r (labelAt w t)
   grown-moved t h = grown-label (moved r t) (moved-within r t h) ∙ label-moved t h
 
   -- one switch more
@@ -158,7 +158,7 @@ module _ (n r : ℕ) (w : Net) (size : switches w ≡ r) (form : FormedAs n r w)
   Own t = labelAt (grown w) (labelAt (grown w) t) ≡ labelAt (grown w) t
 
   -- an old terminal's is
-  own-moved : (t : ℕ) → t < 2 * r + 2 → Own (moved r t)
+  own-moved : (t : ℕ) → t < terminals r → Own (moved r t)
   own-moved t h =
       let l = form .labels-low t h in
       ap (labelAt (grown w)) (grown-moved t h) ∙ grown-moved (labelAt w t) (omega arith)
@@ -203,17 +203,17 @@ module _ (n r : ℕ) (w : Net) (size : switches w ≡ r) (form : FormedAs n r w)
     Old = Walk r (closedOn row w) (labelAt w)
 
     -- terminals of one net stay on one net
-    label-up : (a b : ℕ) → a < 2 * r + 2 → b < 2 * r + 2 → labelAt w a ≡ labelAt w b
+    label-up : (a b : ℕ) → a < terminals r → b < terminals r → labelAt w a ≡ labelAt w b
         → labelAt (grown w) (moved r a) ≡ labelAt (grown w) (moved r b)
     label-up a b p u e = grown-moved a p ∙ ap (moved r) e ∙ sym (grown-moved b u)
 
     -- and were on one
-    label-down : (a b : ℕ) → a < 2 * r + 2 → b < 2 * r + 2 → labelAt (grown w) (moved r a) ≡ labelAt (grown w) (moved r b)
+    label-down : (a b : ℕ) → a < terminals r → b < terminals r → labelAt (grown w) (moved r a) ≡ labelAt (grown w) (moved r b)
         → labelAt w a ≡ labelAt w b
     label-down a b p u e = moved-one r (labelAt w a) (labelAt w b) (sym (grown-moved a p) ∙ e ∙ grown-moved b u)
 
     -- a walk of the network is one of the grown network
-    walk-up : (es : List ℕ) (a b : ℕ) → a < 2 * r + 2 → b < 2 * r + 2 → Old a es b → Grown (moved r a) es (moved r b)
+    walk-up : (es : List ℕ) (a b : ℕ) → a < terminals r → b < terminals r → Old a es b → Grown (moved r a) es (moved r b)
     walk-up [] a b p u x = label-up a b p u x
     walk-up (e ∷ es) a b p u x =
         let l : 1 ≤ e = x .1 .low in
@@ -225,7 +225,7 @@ module _ (n r : ℕ) (w : Net) (size : switches w ≡ r) (form : FormedAs n r w)
         )
 
     -- and back: from an old terminal none enters the new switch
-    walk-down : (es : List ℕ) (a b : ℕ) → a < 2 * r + 2 → b < 2 * r + 2 → Grown (moved r a) es (moved r b) → Old a es b
+    walk-down : (es : List ℕ) (a b : ℕ) → a < terminals r → b < terminals r → Grown (moved r a) es (moved r b) → Old a es b
     walk-down [] a b p u x = label-down a b p u x
     walk-down (e ∷ es) a b p u x =
         let l : 1 ≤ e = x .1 .low in

@@ -41,7 +41,7 @@ least q inputs c none v form does =
 -- where a request's clauses cannot be satisfied, a network that does its job has more than r switches
 pub unsat-least : (q : Request) → refusalOf q ≡ 0 → (Satisfiable (formulaOf q) → ⊥) → MoreThan q
 unsat-least q good none =
-    least q (refusal-good q good .n-low) (q .r) (λ w size form does. none (encoding q good .1 (w, size, form, does)))
+    least q (refusal-good q good .n-low) (q .r) (λ w size form does. none (encoding q .1 (w, size, form, does)))
 
 -- the request for another number of switches
 abbrev pub withSwitches : Request → ℕ → Request
@@ -51,7 +51,7 @@ withSwitches q r = record { n = q .n; table = q .table; r = r; m = q .m }
 pub least-satisfiable : (q : Request) (w : Network) → LeastFor q w → (r : ℕ) → refusalOf (withSwitches q r) ≡ 0
     → Satisfiable (formulaOf (withSwitches q r)) ↔ (q .r ≤ r)
 least-satisfiable q w l r good =
-    let m = encoding (withSwitches q r) good in (
+    let m = encoding (withSwitches q r) in (
       λ s. let v = m .0 s in let h = l .least (v .0) (v .2) (v .3) in omega (arith, v .1),
       λ h.
           let k = least-switches q w l in

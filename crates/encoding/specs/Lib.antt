@@ -1,6 +1,5 @@
 -- The clauses of a request against networks: satisfiable exactly when some network of r switches does the job; and the least
 -- number of switches. Assumes nothing.
-pub mod Clauses
 pub mod Stands
 pub mod OnRow
 pub mod OffRow

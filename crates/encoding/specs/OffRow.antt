@@ -10,13 +10,12 @@ use lib.Dec.{T, eqb, eqb-refl}
 use Rattle.prelude.specs.Tests.{T-of, T-eq, F-eq, ne→neqb, eq?, le?, or-l}
 use Rattle.prelude.specs.Blocks.{for}
 use Rattle.cnf.specs.Cnf.{Formula, Assignment, Sat}
+use Rattle.cnf.specs.Cnf.Parts.{Sat-split, for-out, Sat-join, for-in, cond-in, then-out, one-out, same-out, same-in}
 use Rattle.rows.specs.Rows.{Row}
 use Rattle.network.specs.Networks.{Net, source, sink, switchOf, other, literalAt, labelAt, closedOn, Walk, DoneIf}
 use Rattle.network.specs.Check.{part}
 use Rattle.network.specs.Meaning.Laws.{part-label, part-switch, part-walk}
 use Rattle.formula.specs.Formula.{terminals, X, L, S, sameSide, netSides, switchSides, offRow}
-use Rattle.answer.specs.Decode.Meaning.{Sat-split, for-out}
-use Rattle.encoding.specs.Clauses.{Sat-join, for-in, cond-in, then-out, one-out, same-out, same-in}
 use Rattle.encoding.specs.Stands.{Stands, joined-in, joined-out, chosen-in, chosen-out}
 
 -- what an off row's clauses say of the sides, the values of S
@@ -96,23 +95,23 @@ module _ (n r m : ℕ) (w : Net) (α : Assignment) (stands : Stands n r w α) (B
 
   -- "(−X(i,j) −S(i) S(j)), (−X(i,j) S(i) −S(j))"
   abbrev netAt : ℕ → ℕ → Formula
-  netAt i j = sameSide (X r i j) (S B i) (S B j)
+  netAt i j = sameSide (X (terminals r) i j) (S B i) (S B j)
 
   -- for each j above i
   abbrev netsFrom : ℕ → Formula
   netsFrom i = for (i + 1) (terminals r - (i + 1)) (netAt i)
 
   -- they say that the terminals of one net are on one side: i<j
-  net-up : Sat α (netSides r B) → (i j : ℕ) → i < j → j < terminals r → labelAt w i ≡ labelAt w j → side i ≡ side j
+  net-up : Sat α (netSides (terminals r) B) → (i j : ℕ) → i < j → j < terminals r → labelAt w i ≡ labelAt w j → side i ≡ side j
   unfolding netSides
   net-up s i j l u e =
-      same-sides (X r i j) i j
+      same-sides (X (terminals r) i j) i j
       (for-out α (i + 1) (terminals r - (i + 1)) (netAt i)
       (for-out α 0 (terminals r) netsFrom s i (omega arith) (omega arith)) j (omega arith) (omega arith))
       (joined-in n r w α stands i j (omega arith) u (omega arith) e)
 
   -- any i and j
-  net-out : Sat α (netSides r B) → (i j : ℕ) → i < terminals r → j < terminals r → labelAt w i ≡ labelAt w j → side i ≡ side j
+  net-out : Sat α (netSides (terminals r) B) → (i j : ℕ) → i < terminals r → j < terminals r → labelAt w i ≡ labelAt w j → side i ≡ side j
   net-out s i j a b e =
       ⊎-elim
       (λ (l : i ≤ j).
@@ -121,23 +120,23 @@ module _ (n r m : ℕ) (w : Net) (α : Assignment) (stands : Stands n r w α) (B
       (le? i j)
 
   -- and hold where they are
-  net-hold : Says → Sat α (netSides r B)
+  net-hold : Says → Sat α (netSides (terminals r) B)
   unfolding netSides
   net-hold h =
       for-in α 0 (terminals r) netsFrom (λ i _ a. for-in α (i + 1) (terminals r - (i + 1)) (netAt i) (λ j l b.
-      sides-same (X r i j) i j (λ x.
+      sides-same (X (terminals r) i j) i j (λ x.
       h .on-net i j (omega arith) (omega arith) (joined-out n r w α stands i j (omega arith) (omega arith) (omega arith) x))))
 
   -- "(−L(s,v) −S(a) S(b)), (−L(s,v) S(a) −S(b))" for a v that is 1 on the row
   abbrev switchAt : ℕ → ℕ → Formula
-  switchAt s v = cond (row .value v) (sameSide (L n r s v) (S B (2 * s + 1)) (S B (2 * s + 2))) []
+  switchAt s v = cond (row .value v) (sameSide (L n (terminals r) s v) (S B (2 * s + 1)) (S B (2 * s + 2))) []
 
   -- for each v
   abbrev switchesAt : ℕ → Formula
   switchesAt s = for 0 (2 * n) (switchAt s)
 
   -- they say that the ends of a closed switch are on one side
-  switch-out : Sat α (switchSides n r B (row .value)) → (s : ℕ) → s < r → T (closedOn row w s)
+  switch-out : Sat α (switchSides n (terminals r) r B (row .value)) → (s : ℕ) → s < r → T (closedOn row w s)
       → side (2 * s + 1) ≡ side (2 * s + 2)
   unfolding switchSides
   switch-out f s h y =
@@ -145,24 +144,24 @@ module _ (n r m : ℕ) (w : Net) (α : Assignment) (stands : Stands n r w α) (B
       let low : v < 2 * n = stands .low s h in
       let c : Sat α (switchesAt s) = for-out α 0 r switchesAt f s (omega arith) (omega arith) in
       let d : Sat α (switchAt s v) = for-out α 0 (2 * n) (switchAt s) c v (omega arith) (omega arith) in
-      same-sides (L n r s v) (2 * s + 1) (2 * s + 2) (then-out α (row .value v) _ _ d y) (chosen-in n r w α stands s h)
+      same-sides (L n (terminals r) s v) (2 * s + 1) (2 * s + 2) (then-out α (row .value v) _ _ d y) (chosen-in n r w α stands s h)
 
   -- and hold where they are
-  switch-hold : Says → Sat α (switchSides n r B (row .value))
+  switch-hold : Says → Sat α (switchSides n (terminals r) r B (row .value))
   unfolding switchSides
   switch-hold h =
       for-in α 0 r switchesAt (λ s _ a. for-in α 0 (2 * n) (switchAt s) (λ v _ b.
       let there : s < r = omega arith in
-      cond-in α (row .value v) _ _ (λ y. sides-same (L n r s v) (2 * s + 1) (2 * s + 2) (λ x.
+      cond-in α (row .value v) _ _ (λ y. sides-same (L n (terminals r) s v) (2 * s + 1) (2 * s + 2) (λ x.
       let is : literalAt w s ≡ v = chosen-out n r w α stands s v there (omega arith) x in
       h .on-switch s there (subst (λ (i : ℕ). T (row .value i)) (sym is) y)))
       (λ _. tt)))
 
   -- where an off row's clauses hold, no walk joins the source and the sink
-  pub off-none : Sat α (offRow n r B (row .value)) → DoneIf false r m (closedOn row w) (labelAt w)
+  pub off-none : Sat α (offRow n (terminals r) r B (row .value)) → DoneIf false r m (closedOn row w) (labelAt w)
   unfolding offRow
   off-none s =
-      let two = Sat-split α (netSides r B) (switchSides n r B (row .value)) (s .1 .1) in
+      let two = Sat-split α (netSides (terminals r) B) (switchSides n (terminals r) r B (row .value)) (s .1 .1) in
       sides-none r (closedOn row w) (labelAt w) side
       record {
         at-source = F-eq (side source) (one-out (not (side source)) (s .0));
@@ -174,13 +173,13 @@ module _ (n r m : ℕ) (w : Net) (α : Assignment) (stands : Stands n r w α) (B
   -- and they hold where none does and the values of S are the sides of the parts
   pub none-off : DoneIf false r m (closedOn row w) (labelAt w)
       → ((i : ℕ) → i < terminals r → side i ≡ sideOf r (closedOn row w) (labelAt w) i)
-      → Sat α (offRow n r B (row .value))
+      → Sat α (offRow n (terminals r) r B (row .value))
   unfolding offRow
   none-off none is =
       let h : Says = none-sides r (closedOn row w) (labelAt w) side is none in (
         or-l (not (side source)) false (T-of (not (side source)) (ap not (h .at-source))),
         (
           or-l (side (sink r)) false (T-of (side (sink r)) (h .at-sink)),
-          Sat-join α (netSides r B) (switchSides n r B (row .value)) (net-hold h) (switch-hold h),
+          Sat-join α (netSides (terminals r) B) (switchSides n (terminals r) r B (row .value)) (net-hold h) (switch-hold h),
         ),
       )

@@ -12,11 +12,10 @@ use Rattle.prelude.specs.Tests.{T-cases, eq→eqb, ne→neqb, neqb→ne, eq?, l
 use Rattle.prelude.specs.Blocks.{for}
 use Rattle.prelude.specs.Blocks.Laws.{for-last}
 use Rattle.cnf.specs.Cnf.{pos, neg, Clause, Formula, Assignment, clauseHolds, Sat}
+use Rattle.cnf.specs.Cnf.Parts.{Sat-split, for-out, imp2, no2, Sat-join, for-in, cond-in, then-out, else-out, some-from, some-in, one-out, imp1, imp1-in, imp2-in, no2-in}
 use Rattle.rows.specs.Rows.{Row}
 use Rattle.network.specs.Networks.{Net, source, sink, switchOf, other, literalAt, labelAt, closedOn, Enters, Walk, DoneIf}
-use Rattle.formula.specs.Formula.{X, L, W, Z, someStep, closedStep, firstStep, linkStep, lastStep, onRow}
-use Rattle.answer.specs.Decode.Meaning.{Sat-split, for-out, imp2, no2}
-use Rattle.encoding.specs.Clauses.{Sat-join, for-in, cond-in, then-out, else-out, some-from, some-in, one-out, imp1, imp1-in, imp2-in, no2-in}
+use Rattle.formula.specs.Formula.{terminals, X, L, W, Z, someStep, closedStep, firstStep, linkStep, lastStep, onRow}
 use Rattle.encoding.specs.Stands.{Stands, joined-in, joined-out, chosen-in, chosen-out}
 
 -- what an on row's clauses say: step t e is the value of W(t,e), and at e = 2r+1 of Z(t)
@@ -172,7 +171,7 @@ module _ (n r m : ℕ) (w : Net) (α : Assignment) (stands : Stands n r w α) (B
 
   -- "(−W(t,e) −L(s,v))" for a v that is 0 on the row
   abbrev notOpen : ℕ → ℕ → ℕ → Formula
-  notOpen t e v = cond (row .value v) [] ((neg (W r B t e) ∷ neg (L n r (switchOf e) v) ∷ []) ∷ [])
+  notOpen t e v = cond (row .value v) [] ((neg (W r B t e) ∷ neg (L n (terminals r) (switchOf e) v) ∷ []) ∷ [])
 
   -- for each v
   abbrev notOpenAt : ℕ → ℕ → Formula
@@ -192,7 +191,7 @@ module _ (n r m : ℕ) (w : Net) (α : Assignment) (stands : Stands n r w α) (B
       let d : Sat α (notOpen t e v) = for-out α 0 (2 * n) (notOpen t e) c v (omega arith) (omega arith) in
       ⊎-elim (λ (y : T (row .value v)). y)
       (λ (y : T (not (row .value v))).
-      absurd (no2 (step t e) (α (L n r (switchOf e) v)) ((else-out α (row .value v) _ _ d y) .0) x
+      absurd (no2 (step t e) (α (L n (terminals r) (switchOf e) v)) ((else-out α (row .value v) _ _ d y) .0) x
       (chosen-in n r w α stands (switchOf e) there)))
       (T-cases (row .value v))
 
@@ -202,7 +201,7 @@ module _ (n r m : ℕ) (w : Net) (α : Assignment) (stands : Stands n r w α) (B
   closed-hold h =
       for-in α 1 m (λ t. for 1 (2 * r) (notOpenAt t)) (λ t l u. for-in α 1 (2 * r) (notOpenAt t) (λ e k a.
       for-in α 0 (2 * n) (notOpen t e) (λ v _ b. cond-in α (row .value v) _ _ (λ _. tt) (λ y. (
-        no2-in (step t e) (α (L n r (switchOf e) v)) (λ x z.
+        no2-in (step t e) (α (L n (terminals r) (switchOf e) v)) (λ x z.
             let is : literalAt w (switchOf e) ≡ v = chosen-out n r w α stands (switchOf e) v (omega arith) (omega arith) z in
             T-not (row .value v) y (subst (λ (i : ℕ). T (row .value i)) is (h .closed t e l (omega arith) k (omega arith) x))),
         tt,
@@ -210,28 +209,28 @@ module _ (n r m : ℕ) (w : Net) (α : Assignment) (stands : Stands n r w α) (B
 
   -- "(−W(1,e) X(0,e)); then (−Z(1) X(0,2r+1))": the second is the first at e = 2r+1
   abbrev firstAt : ℕ → Formula
-  firstAt e = (neg (W r B 1 e) ∷ pos (X r source e) ∷ []) ∷ []
+  firstAt e = (neg (W r B 1 e) ∷ pos (X (terminals r) source e) ∷ []) ∷ []
 
   -- they say that step 1 starts on the source's net
   first-out : Sat α (firstStep r B) → (e : ℕ) → 1 ≤ e → e ≤ 2 * r + 1 → T (step 1 e) → labelAt w source ≡ labelAt w e
   unfolding firstStep
   first-out s e l u x =
       let c = for-out α 1 (2 * r + 1) firstAt (subst (Sat α) (for-last (2 * r) firstAt) s) e l (omega arith) in
-      joined-out n r w α stands source e (omega arith) (omega arith) (omega arith) (imp1 (step 1 e) (α (X r source e)) (c .0) x)
+      joined-out n r w α stands source e (omega arith) (omega arith) (omega arith) (imp1 (step 1 e) (α (X (terminals r) source e)) (c .0) x)
 
   -- and hold where it does
   first-hold : Says → Sat α (firstStep r B)
   unfolding firstStep
   first-hold h =
       subst (Sat α) (sym (for-last (2 * r) firstAt)) (for-in α 1 (2 * r + 1) firstAt (λ e l u. (
-        imp1-in (step 1 e) (α (X r source e)) (λ x.
+        imp1-in (step 1 e) (α (X (terminals r) source e)) (λ x.
             joined-in n r w α stands source e (omega arith) (omega arith) (omega arith) (h .first e l (omega arith) x)),
         tt,
       )))
 
   -- "(−W(t,e) −W(t+1,g) X(e',g))"; at g = 2r+1 "(−W(t,e) −Z(t+1) X(e',2r+1))"
   abbrev linkTo : ℕ → ℕ → ℕ → Formula
-  linkTo t e g = (neg (W r B t e) ∷ neg (W r B (t + 1) g) ∷ pos (X r (other e) g) ∷ []) ∷ []
+  linkTo t e g = (neg (W r B t e) ∷ neg (W r B (t + 1) g) ∷ pos (X (terminals r) (other e) g) ∷ []) ∷ []
 
   -- for g "except e'"
   abbrev linkBut : ℕ → ℕ → ℕ → Formula
@@ -260,7 +259,7 @@ module _ (n r m : ℕ) (w : Net) (α : Assignment) (stands : Stands n r w α) (B
       ⊎-elim (λ (z : g ≡ other e). ap (labelAt w) (sym z))
       (λ (d : g ≢ other e).
       joined-out n r w α stands (other e) g (omega arith) (omega arith) (λ z. d (sym z))
-      (imp2 (step t e) (step (t + 1) g) (α (X r (other e) g)) ((clause d) .0) x y))
+      (imp2 (step t e) (step (t + 1) g) (α (X (terminals r) (other e) g)) ((clause d) .0) x y))
       (eq? g (other e))
 
   -- and hold where it does
@@ -276,14 +275,14 @@ module _ (n r m : ℕ) (w : Net) (α : Assignment) (stands : Stands n r w α) (B
     where
       one : (t e g : ℕ) → 1 ≤ t → t < m → 1 ≤ e → e ≤ 2 * r → 1 ≤ g → g ≤ 2 * r + 1 → g ≢ other e → Sat α (linkTo t e g)
       one t e g l u k a b c d = (
-        imp2-in (step t e) (step (t + 1) g) (α (X r (other e) g)) (λ x y.
+        imp2-in (step t e) (step (t + 1) g) (α (X (terminals r) (other e) g)) (λ x y.
             joined-in n r w α stands (other e) g (omega arith) (omega arith) (λ z. d (sym z)) (h .link t e g l u k a b c x y)),
         tt,
       )
 
   -- "(−W(M,e) X(e',2r+1))"
   abbrev lastAt : ℕ → Formula
-  lastAt e = (neg (W r B m e) ∷ pos (X r (other e) (sink r)) ∷ []) ∷ []
+  lastAt e = (neg (W r B m e) ∷ pos (X (terminals r) (other e) (sink r)) ∷ []) ∷ []
 
   -- it says that step M ends on the sink's net
   last-out : Sat α (lastStep r m B) → (e : ℕ) → 1 ≤ e → e ≤ 2 * r → T (step m e) → labelAt w (other e) ≡ labelAt w (sink r)
@@ -291,14 +290,14 @@ module _ (n r m : ℕ) (w : Net) (α : Assignment) (stands : Stands n r w α) (B
   last-out s e l u x =
       let high = other-high r e l u in
       joined-out n r w α stands (other e) (sink r) (omega arith) (omega arith) (omega arith)
-      (imp1 (step m e) (α (X r (other e) (sink r))) ((for-out α 1 (2 * r) lastAt s e l (omega arith)) .0) x)
+      (imp1 (step m e) (α (X (terminals r) (other e) (sink r))) ((for-out α 1 (2 * r) lastAt s e l (omega arith)) .0) x)
 
   -- and holds where it does
   last-hold : Says → Sat α (lastStep r m B)
   unfolding lastStep
   last-hold h =
       for-in α 1 (2 * r) lastAt (λ e l u. (
-        imp1-in (step m e) (α (X r (other e) (sink r))) (λ x.
+        imp1-in (step m e) (α (X (terminals r) (other e) (sink r))) (λ x.
             let high = other-high r e l (omega arith) in
             joined-in n r w α stands (other e) (sink r) (omega arith) (omega arith) (omega arith) (h .last e l (omega arith) x)),
         tt,
@@ -339,7 +338,7 @@ module _ (n r m : ℕ) (w : Net) (α : Assignment) (stands : Stands n r w α) (B
         [],
         omega arith,
         joined-out n r w α stands source (sink r) (omega arith) (omega arith) (omega arith)
-            (one-out (α (X r source (sink r))) ((then-out α (eqb m 0) _ _ s (eq→eqb m 0 z)) .0)),
+            (one-out (α (X (terminals r) source (sink r))) ((then-out α (eqb m 0) _ _ s (eq→eqb m 0 z)) .0)),
       ))
       (λ (z : m ≢ 0).
       steps-walk r m (closedOn row w) (labelAt w) step (five-out (else-out α (eqb m 0) _ _ s (ne→neqb m 0 z))) (omega arith))
@@ -350,12 +349,12 @@ module _ (n r m : ℕ) (w : Net) (α : Assignment) (stands : Stands n r w α) (B
       → ((t e : ℕ) → 1 ≤ t → t ≤ m → 1 ≤ e → e ≤ 2 * r + 1 → step t e ≡ entered r es t e) → Sat α (onRow n r m B (row .value))
   unfolding onRow
   walk-on-row es short v is =
-      cond-in α (eqb m 0) _ _ (λ z. (or-l (α (X r source (sink r))) false (none (eqb→eq m 0 z) es short v), tt))
+      cond-in α (eqb m 0) _ _ (λ z. (or-l (α (X (terminals r) source (sink r))) false (none (eqb→eq m 0 z) es short v), tt))
       (λ z.
       let some : 1 ≤ m = omega (arith, neqb→ne m 0 z) in
       five-hold (walk-steps r m (closedOn row w) (labelAt w) es short v step is some))
     where
       none : m ≡ 0 → (es : List ℕ) → length es ≤ m → Walk r (closedOn row w) (labelAt w) source es (sink r)
-          → T (α (X r source (sink r)))
+          → T (α (X (terminals r) source (sink r)))
       none z [] k v = joined-in n r w α stands source (sink r) (omega arith) (omega arith) (omega arith) v
       none z (e ∷ es) k v = absurd (omega arith)

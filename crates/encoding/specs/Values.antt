@@ -4,7 +4,7 @@ use mathlib.Core.Path.{_≡_, refl, sym, ap, ap₂, _∙_}
 use mathlib.Core.Bool.{Bool, true, false, cond}
 use mathlib.Core.List.{List, [], _∷_, _++_}
 use mathlib.Core.Logic.{⊎-elim, _≢_}
-use Prim.Native.Nat.{ℕ, _+_, _-_, _*_, _/_, _≤_, _<_}
+use Prim.Native.Nat.{ℕ, _+_, _-_, _*_, _≤_, _<_}
 use native.Mathlib.Nat.{mul-comm, mul-one}
 use native.Mathlib.Omega.{arith}
 use lib.Arith.{digits-lt}
@@ -12,18 +12,18 @@ use lib.Dec.{eqb, eqb→eq}
 use lib.ListN.{length, getD, List·getD-append}
 use lib.Seq.{getD-append-add}
 use Rattle.prelude.specs.Tests.{tests-eq, eq→eqb, le?}
-use Rattle.prelude.specs.Finite.{below, below-at}
+use Rattle.prelude.specs.Finite.{below}
 use Rattle.prelude.specs.Blocks.{each}
 use Rattle.prelude.specs.Blocks.Laws.{each-length, each-at, singles-length, singles-at}
 use Rattle.cnf.specs.Cnf.{Assignment, Sat}
+use Rattle.cnf.specs.Cnf.Parts.{Sat-join}
 use Rattle.rows.specs.Rows.{Row}
 use Rattle.network.specs.Networks.{Net, literalAt, labelAt, closedOn, FormedAs, DoneIf, DoesAll}
-use Rattle.formula.specs.Formula.{terminals, pairNumber, X, P, L, W, S, onRow, offRow, rowVariables, rowClauses, rowsFrom}
-use Rattle.formula.specs.Formula.Laws.{joined-low, joined-high}
+use Rattle.formula.specs.Formula.{terminals, pairNumber, X, P, L, W, S, onRow, offRow, rowVariables, rowClauses, rowsFrom, networkVariables}
+use Rattle.formula.specs.Formula.Laws.{joined-low, joined-high, pair-number, pairs-count}
 use Rattle.formula.specs.Formula.Range.{joined-in}
 use Rattle.formula.specs.Pairs.{pairsBefore}
 use Rattle.formula.specs.Pairs.Laws.{pairRow, pair-rows-length, pair-rows-at}
-use Rattle.encoding.specs.Clauses.{Sat-join}
 use Rattle.encoding.specs.Stands.{Stands}
 use Rattle.encoding.specs.OnRow.{entered, walk-on-row}
 use Rattle.encoding.specs.OffRow.{sideOf, none-off}
@@ -58,48 +58,33 @@ rowsValues r m w (row ∷ rows) d = rowValues (row .on) r m (closedOn row w) (la
 equal-back : (a b : ℕ) → eqb a b ≡ eqb b a
 equal-back a b = tests-eq (eqb a b) (eqb b a) (λ t. eq→eqb b a (sym (eqb→eq a b t))) (λ t. eq→eqb a b (sym (eqb→eq b a t)))
 
--- P is the number of pairs of terminals: one computation over r
-pairs-are : (r : ℕ) → r ≤ 7 → P r ≡ pairsBefore (terminals r) (terminals r)
-unfolding P pairsBefore
-pairs-are r h = eqb→eq _ _ (below-at 8 (λ r. eqb (P r) (pairsBefore (terminals r) (terminals r))) tt r (omega arith))
-
--- i·(2N−i−1)/2 is the number of pairs that start below i: one computation over r and i
-before-are : (r i : ℕ) → r ≤ 7 → i < terminals r → i * (2 * terminals r - i - 1) / 2 ≡ pairsBefore (terminals r) i
-unfolding pairsBefore
-before-are r i h l =
-    eqb→eq _ _
-    (below-at (terminals r) (test r) (below-at 8 (λ r. below (terminals r) (test r)) tt r (omega arith)) i l)
-  where
-    test : ℕ → ℕ → Bool
-    test r i = eqb (i * (2 * terminals r - i - 1) / 2) (pairsBefore (terminals r) i)
-
-module _ (r : ℕ) (w : Net) (small : r ≤ 7) where
+module _ (r : ℕ) (w : Net) where
   -- X has P values
-  joined-long : length (joinedValues r w) ≡ P r
+  joined-long : length (joinedValues r w) ≡ P (terminals r)
   unfolding joinedValues
   joined-long =
       pair-rows-length 1 (terminals r) (terminals r) (λ i j. eqb (labelAt w i) (labelAt w j) ∷ []) (λ i j. refl)
-      ∙ mul-one (pairsBefore (terminals r) (terminals r)) ∙ sym (pairs-are r small)
+      ∙ mul-one (pairsBefore (terminals r) (terminals r)) ∙ sym (pairs-count (terminals r))
 
   -- the value of X(i,j), i<j
-  pair-at : (i j : ℕ) → i < j → j < terminals r → valued (joinedValues r w) (pairNumber r i j) ≡ eqb (labelAt w i) (labelAt w j)
-  unfolding joinedValues pairNumber
+  pair-at : (i j : ℕ) → i < j → j < terminals r → valued (joinedValues r w) (pairNumber (terminals r) i j) ≡ eqb (labelAt w i) (labelAt w j)
+  unfolding joinedValues
   pair-at i j l u =
       let k : ℕ = pairsBefore (terminals r) i + (j - (i + 1)) in
-      let before = before-are r i small (omega arith) in
-      let e : pairNumber r i j - 1 ≡ k * 1 + 0 = omega arith in
+      let number = pair-number (terminals r) i j (omega arith) in
+      let e : pairNumber (terminals r) i j - 1 ≡ k * 1 + 0 = omega arith in
       ap (λ (x : ℕ). getD (joinedValues r w) x false) e
       ∙ pair-rows-at 1 (terminals r) k i j 0 (λ i j. eqb (labelAt w i) (labelAt w j) ∷ []) false (λ i j. refl)
       (record { up = l; within = u; place = refl }) (omega arith)
 
   -- and in any order
   joined-at : (i j : ℕ) → i < terminals r → j < terminals r → i ≢ j
-      → valued (joinedValues r w) (X r i j) ≡ eqb (labelAt w i) (labelAt w j)
+      → valued (joinedValues r w) (X (terminals r) i j) ≡ eqb (labelAt w i) (labelAt w j)
   joined-at i j a b d =
       ⊎-elim
       (λ (l : j ≤ i).
-      ap (valued (joinedValues r w)) (joined-high r i j l) ∙ pair-at j i (omega arith) a ∙ equal-back (labelAt w j) (labelAt w i))
-      (λ (l : i < j). ap (valued (joinedValues r w)) (joined-low r i j l) ∙ pair-at i j l b)
+      ap (valued (joinedValues r w)) (joined-high (terminals r) i j l) ∙ pair-at j i (omega arith) a ∙ equal-back (labelAt w j) (labelAt w i))
+      (λ (l : i < j). ap (valued (joinedValues r w)) (joined-low (terminals r) i j l) ∙ pair-at i j l b)
       (le? j i)
 
 module _ (n r : ℕ) (w : Net) where
@@ -120,23 +105,23 @@ module _ (n r : ℕ) (w : Net) where
       ∙ singles-at (2 * n) v (λ v. eqb (literalAt w s) v) false l
 
 -- values that start with those of X and L stand for the network
-pub values-stand : (n r : ℕ) (w : Net) (rest : List Bool) → r ≤ 7 → FormedAs n r w
+pub values-stand : (n r : ℕ) (w : Net) (rest : List Bool) → FormedAs n r w
     → Stands n r w (valued (joinedValues r w ++ (chosenValues n r w ++ rest)))
 unfolding L
-values-stand n r w rest small form =
+values-stand n r w rest form =
     record {
       joined = λ i j a b d.
-          let place = joined-in r i j small a b d in
+          let place = joined-in (terminals r) i j a b d in
           let low = place .0 in
           let high = place .1 in
-          let long = joined-long r w small in
-          List·getD-append (joinedValues r w) (chosenValues n r w ++ rest) false (X r i j - 1) (omega arith)
-          ∙ joined-at r w small i j a b d;
+          let long = joined-long r w in
+          List·getD-append (joinedValues r w) (chosenValues n r w ++ rest) false (X (terminals r) i j - 1) (omega arith)
+          ∙ joined-at r w i j a b d;
       chosen = λ s v h l.
-          let long = joined-long r w small in
+          let long = joined-long r w in
           let turn = mul-comm s (2 * n) in
           let room : s * (2 * n) + v < length (chosenValues n r w) = rw (chosen-long n r w) (digits-lt h l) in
-          let e : L n r s v - 1 ≡ length (joinedValues r w) + (s * (2 * n) + v) = omega arith in
+          let e : L n (terminals r) s v - 1 ≡ length (joinedValues r w) + (s * (2 * n) + v) = omega arith in
           ap (λ (x : ℕ). getD (joinedValues r w ++ (chosenValues n r w ++ rest)) x false) e
           ∙ getD-append-add (joinedValues r w) (chosenValues n r w ++ rest) (s * (2 * n) + v) false
           ∙ List·getD-append (chosenValues n r w) rest false (s * (2 * n) + v) room ∙ chosen-at n r w s v h l;
@@ -144,13 +129,13 @@ values-stand n r w rest small form =
     }
 
 -- and the values of the rows come after them
-pub rows-after : (n r : ℕ) (w : Net) (rest : List Bool) → r ≤ 7 → (k : ℕ)
-    → getD (joinedValues r w ++ (chosenValues n r w ++ rest)) (P r + 2 * n * r + k) false ≡ getD rest k false
-rows-after n r w rest small k =
-    let long = joined-long r w small in
+pub rows-after : (n r : ℕ) (w : Net) (rest : List Bool) → (k : ℕ)
+    → getD (joinedValues r w ++ (chosenValues n r w ++ rest)) (networkVariables n r + k) false ≡ getD rest k false
+rows-after n r w rest k =
+    let long = joined-long r w in
     let more = chosen-long n r w in
     let turn = mul-comm r (2 * n) in
-    let e : P r + 2 * n * r + k ≡ length (joinedValues r w) + (length (chosenValues n r w) + k) = omega arith in
+    let e : networkVariables n r + k ≡ length (joinedValues r w) + (length (chosenValues n r w) + k) = omega arith in
     ap (λ (x : ℕ). getD (joinedValues r w ++ (chosenValues n r w ++ rest)) x false) e
     ∙ getD-append-add (joinedValues r w) (chosenValues n r w ++ rest) (length (chosenValues n r w) + k) false
     ∙ getD-append-add (chosenValues n r w) rest k false
@@ -193,7 +178,7 @@ module _ (n r m : ℕ) (w : Net) (values : List Bool) (stands : Stands n r w (va
   -- the clauses of a row hold where its values stand after B others
   row-holds : (B : ℕ) (row : Row) (on : Bool) (d : DoneIf on r m (closedOn row w) (labelAt w))
       → ((k : ℕ) → k < length (valuesOf row on d) → getD values (B + k) false ≡ getD (valuesOf row on d) k false)
-      → Sat (valued values) (cond on (onRow n r m B (row .value)) (offRow n r B (row .value)))
+      → Sat (valued values) (cond on (onRow n r m B (row .value)) (offRow n (terminals r) r B (row .value)))
   unfolding W S
   row-holds B row true d is =
       walk-on-row n r m w (valued values) stands B row (d .0) (d .1) (d .2) (λ t e l u k h.

@@ -26,15 +26,15 @@ use Rattle.answer.specs.Reading.{passed, valued, lineStep, linesFrom, ended, re
 use Rattle.lrat.specs.Words.{wordsFrom, wordsAt, literalsAt, idsAt, runFrom, runAt, deletionAt, hintsAfter, additionAt, lineAfter, lineAt}
 use Rattle.lrat.specs.State.{standsIn, clauseAt, hintsOf, without, deleteAll}
 use Rattle.lrat.specs.Check.{concluded, addStep, deleteStep, stepOf, lineStep as checkStep, linesFrom as checkFrom, linesOf}
-use Rattle.store.specs.Store.{storeRefusal}
+use Rattle.formula_clauses.specs.Store.{roomRefusal}
 use Rattle.lrat.specs.Outcome.{numberOf as resultNumber, valuesOf as resultValues, outcomeOf}
-use Rattle.refutation.specs.Refutation.{Lent, lent, refusalBefore, linesFor, checkAnswer}
+use Rattle.lrat_check.specs.Refutation.{Lent, lent, refusalBefore, linesFor, checkAnswer}
 use Rattle.settle.specs.Settle.{verdictNumber, verdictValues, verdictBelow, settlement}
 use Rattle.reports.specs.Reports.{numberText, switchText, shownSwitches, sinkText, networkText, refusedText, failsText, worksText, leastText}
-use Rattle.reporting.specs.Report.{reportText}
+use Rattle.reports.specs.Report.{reportText}
 use Rattle.text.specs.Decimal.{digits as numeral, decimal}
 use Rattle.text.specs.Text.{literalText, literalsText, lineText}
-use Rattle.size.specs.File.{headText, bodyText, fileText}
+use Rattle.dimacs.specs.File.{headText, bodyText, fileText}
 
 -- what is computed, and what document 01 states
 pub record Row : Type 0 where
@@ -203,7 +203,7 @@ rows =
 pub holds : map (λ (x : Row). x .computed) rows ≡ map (λ (x : Row). x .stated) rows
 unfolding rows noSwitch slices refuted noRefutation oneReport oneSettled noneReport verdictBelow settlement numberText switchText shownSwitches sinkText networkText refusedText failsText worksText leastText reportText
     wordsFrom wordsAt literalsAt idsAt runFrom runAt deletionAt hintsAfter additionAt lineAfter lineAt standsIn clauseAt hintsOf without deleteAll
-    concluded addStep deleteStep stepOf checkStep checkFrom linesOf storeRefusal refusalBefore outcomeOf linesFor checkAnswer clauseCount literalCount clausesBefore literalsBefore
+    concluded addStep deleteStep stepOf checkStep checkFrom linesOf roomRefusal refusalBefore outcomeOf linesFor checkAnswer clauseCount literalCount clausesBefore literalsBefore
     onRowCount onRowLiterals pairsBefore triplesBefore
     equalLists oneSwitch oneAnswer answered digitsAt numberAt wordAt lineEnd standsAt formFrom formAt refusedBy keptBy namedOne namedFrom complete assigned holding
     lowest literalFor labelFor decoded passed valued lineStep linesFrom ended readingOf clauseOf exclusive checked reading network requestOf requestNumber lineForm numbersRefusal runEnd digits endedBy single isTable tableAt

@@ -1,8 +1,8 @@
 // Reads a request from standard input and writes its clause file to standard output, from a buffer of 65,536 bytes; otherwise
 // writes "refused" and the number. It reads up to 65,536 bytes; a longer input is no request and is refused with 1.
+use dimacs::Answer;
 use request::Reading;
 use request::Request;
-use size::Answer;
 
 fn refuse(number: u8) {
     io::write_all(1, b"refused ");
@@ -19,7 +19,7 @@ fn send(buffer: &[u8], count: usize) {
 
 fn write(q: Request) {
     let mut buffer = io::large_buffer();
-    match dimacs::write_file(q, &mut buffer) {
+    match dimacs::write::write_file(q, &mut buffer) {
         Answer::Bytes(k) => send(&buffer, k),
         Answer::Refused(x) => refuse(x),
     }
@@ -32,7 +32,7 @@ fn main() {
         refuse(1);
         return;
     }
-    match request_line::read_request(&input[..got]) {
+    match request_read::read_request(&input[..got]) {
         Reading::Taken(q) => write(q),
         Reading::Refused(x) => refuse(x),
     }

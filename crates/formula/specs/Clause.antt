@@ -2,19 +2,25 @@
 use mathlib.Core.Path.{_≡_}
 use mathlib.Core.Bool.{cond}
 use mathlib.Core.List.{List, [], _∷_}
-use Prim.Native.Nat.{ℕ, _+_}
+use Prim.Native.Nat.{ℕ, _+_, _≤_}
 use lib.Dec.{T}
 use lib.ListN.{length}
 use Rattle.prelude.specs.Blocks.{for}
+use Rattle.prelude.specs.Lists.{Each}
 use Rattle.cnf.specs.Cnf.{pos}
 use Rattle.cnf.specs.declared.Literal.{Literal}
 use Rattle.formula.specs.declared.Clause.{Clause}
 use Rattle.formula.specs.declared.Clause.the-variants.{Run, One, Two, Three}
+use Rattle.formula.specs.Count.{variablesMost}
 pub mod Laws
 
 -- the positive literals of count variables from first on
 unfoldable pub run : ℕ → ℕ → List Literal
 run first count = for 0 count (λ i. pos (first + i) ∷ [])
+
+-- no variable is above the most that a request has
+abbrev pub Low : List Literal → Type 0
+Low ls = Each (λ l. l .variable ≤ variablesMost) ls
 
 -- a clause's literals, in order
 abbrev pub literalsOf : Clause → List Literal

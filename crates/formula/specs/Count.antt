@@ -2,12 +2,13 @@
 -- variables, C of clauses, T of literals in all clauses"). Assumes nothing.
 use mathlib.Core.Bool.{cond}
 use lib.Dec.{eqb}
-use Prim.Native.Nat.{ℕ, _+_, _-_, _*_, _^_}
+use Prim.Native.Nat.{ℕ, _+_, _-_, _*_, _/_, _^_}
 use Rattle.rows.specs.Rows.{onBelow}
-use Rattle.request.specs.Numbers.{refusalOf}
+use Rattle.request.specs.Numbers.{inputsMost, switchesMost, seriesMost, rowsMost, refusalOf}
 use Rattle.request.specs.declared.Request.{Request}
+use Rattle.network.specs.Value.{terminalsMost}
 use Rattle.formula.specs.declared.Sizes.{Sizes}
-use Rattle.formula.specs.Formula.{P, terminals}
+use Rattle.formula.specs.Formula.{terminals, networkVariables}
 use Rattle.formula.specs.Pairs.{pairsBefore, triplesBefore}
 pub mod Laws
 
@@ -21,28 +22,44 @@ onRowLiterals n r m =
     cond (eqb m 0) 1 (m * (2 * r + 1) + 2 * (m * (2 * r * n)) + 2 * (2 * r + 1) + 3 * ((m - 1) * (2 * r * (2 * r))) + 2 * (2 * r))
 
 -- the clauses of an off row
-abbrev pub offRowCount : ℕ → ℕ → ℕ
-offRowCount n r = 2 + 2 * pairsBefore (2 * r + 2) (2 * r + 2) + r * (n * 2)
+abbrev pub offRowCount : ℕ → ℕ → ℕ → ℕ
+offRowCount n N r = 2 + 2 * pairsBefore N N + r * (n * 2)
 
 -- the literals of an off row
-abbrev pub offRowLiterals : ℕ → ℕ → ℕ
-offRowLiterals n r = 2 + 3 * (2 * pairsBefore (2 * r + 2) (2 * r + 2) + r * (n * 2))
+abbrev pub offRowLiterals : ℕ → ℕ → ℕ → ℕ
+offRowLiterals n N r = 2 + 3 * (2 * pairsBefore N N + r * (n * 2))
+
+-- the clauses of groups 1 and 2
+abbrev pub networkCount : ℕ → ℕ → ℕ
+networkCount n r = triplesBefore (terminals r) (terminals r) * 3 + r * (pairsBefore (2 * n) (2 * n) + 1)
+
+-- their literals, three in each clause of group 1
+abbrev pub networkLiterals : ℕ → ℕ → ℕ
+networkLiterals n r = 3 * (triplesBefore (terminals r) (terminals r) * 3) + r * (2 * n + 2 * pairsBefore (2 * n) (2 * n))
 
 -- a for each on row below row k, b for each off row
 unfoldable pub split : ℕ → ℕ → ℕ → ℕ → ℕ
 split table a b k = onBelow table k * a + (k - onBelow table k) * b
 
--- the variables before row k: P, the 2n·r of group 2, and those of the lower rows
+-- the variables before row k: X and L, and those of the lower rows
 unfoldable pub variablesBefore : Request → ℕ → ℕ
-variablesBefore q k = P (q .r) + 2 * q .n * q .r + split (q .table) (q .m * (2 * q .r + 1)) (terminals (q .r)) k
+variablesBefore q k = networkVariables (q .n) (q .r) + split (q .table) (q .m * (2 * q .r + 1)) (terminals (q .r)) k
 
 -- the clauses of the rows below row k
 unfoldable pub clausesBefore : Request → ℕ → ℕ
-clausesBefore q k = split (q .table) (onRowCount (q .n) (q .r) (q .m)) (offRowCount (q .n) (q .r)) k
+clausesBefore q k = split (q .table) (onRowCount (q .n) (q .r) (q .m)) (offRowCount (q .n) (terminals (q .r)) (q .r)) k
 
 -- the literals of the rows below row k
 unfoldable pub literalsBefore : Request → ℕ → ℕ
-literalsBefore q k = split (q .table) (onRowLiterals (q .n) (q .r) (q .m)) (offRowLiterals (q .n) (q .r)) k
+literalsBefore q k = split (q .table) (onRowLiterals (q .n) (q .r) (q .m)) (offRowLiterals (q .n) (terminals (q .r)) (q .r)) k
+
+-- the most X and L variables of a request
+abbrev pub valuesMost : ℕ
+valuesMost = terminalsMost * (terminalsMost - 1) / 2 + 2 * inputsMost * switchesMost
+
+-- the most variables: these, and the steps of an on row on every row
+abbrev pub variablesMost : ℕ
+variablesMost = valuesMost + rowsMost * (seriesMost * (2 * switchesMost + 1))
 
 -- V
 unfoldable pub variableCount : Request → ℕ
@@ -50,14 +67,11 @@ variableCount q = variablesBefore q (2 ^ (q .n))
 
 -- C: groups 1 and 2, and the rows
 unfoldable pub clauseCount : Request → ℕ
-clauseCount q =
-    triplesBefore (terminals (q .r)) (terminals (q .r)) * 3 + q .r * (pairsBefore (2 * q .n) (2 * q .n) + 1) + clausesBefore q (2 ^ (q .n))
+clauseCount q = networkCount (q .n) (q .r) + clausesBefore q (2 ^ (q .n))
 
--- T: three literals in each clause of group 1, those of group 2, and the rows'
+-- T: their literals
 unfoldable pub literalCount : Request → ℕ
-literalCount q =
-    3 * (triplesBefore (terminals (q .r)) (terminals (q .r)) * 3) + q .r * (2 * q .n + 2 * pairsBefore (2 * q .n) (2 * q .n))
-    + literalsBefore q (2 ^ (q .n))
+literalCount q = networkLiterals (q .n) (q .r) + literalsBefore q (2 ^ (q .n))
 
 -- the refusal of a request; V, C and T where it is taken
 unfoldable pub sizesOf : Request → Sizes

@@ -1,5 +1,5 @@
--- Document 01's variable numbers and clauses, in its order. n is the number of inputs, r of switches, m the series bound M, and B
--- the number of variables before a row, value the value of each literal on it. Assumes nothing.
+-- Document 01's variable numbers and clauses, in its order. n is the number of inputs, r of switches, N of terminals, m the
+-- series bound M, and B the number of variables before a row, value the value of each literal on it. Assumes nothing.
 use mathlib.Core.Bool.{Bool, cond}
 use mathlib.Core.List.{List, [], _∷_, _++_}
 use Prim.Native.Nat.{ℕ, _+_, _-_, _*_, _/_}
@@ -9,6 +9,8 @@ use Rattle.cnf.specs.Cnf.{pos, neg, Formula}
 use Rattle.rows.specs.Rows.{Row, rowsOf}
 use Rattle.request.specs.declared.Request.{Request}
 use Rattle.network.specs.Networks.{source, sink, switchOf, other}
+-- "There are N = 2r+2 terminals", passed on
+pub use Rattle.network.specs.Networks.{terminals}
 pub mod Bounds
 pub mod Laws
 pub mod Groups
@@ -17,25 +19,25 @@ pub mod OffRow
 pub mod Rows
 pub mod Range
 
--- "There are N = 2r+2 terminals"
-abbrev pub terminals : ℕ → ℕ
-terminals r = 2 * r + 2
-
 -- "X(i,j), i<j, pairs in order of i then j: i·(2N−i−1)/2 + j−i"
 unfoldable pub pairNumber : ℕ → ℕ → ℕ → ℕ
-pairNumber r i j = i * (2 * terminals r - i - 1) / 2 + (j - i)
+pairNumber N i j = i * (2 * N - i - 1) / 2 + (j - i)
 
 -- "X(j,i) is the same"
 unfoldable pub X : ℕ → ℕ → ℕ → ℕ
-X r i j = cond (ltb i j) (pairNumber r i j) (pairNumber r j i)
+X N i j = cond (ltb i j) (pairNumber N i j) (pairNumber N j i)
 
 -- "P = N(N−1)/2"
 unfoldable pub P : ℕ → ℕ
-P r = terminals r * (terminals r - 1) / 2
+P N = N * (N - 1) / 2
 
 -- "L(s,v) = P + 2n·s + v + 1"
 unfoldable pub L : ℕ → ℕ → ℕ → ℕ → ℕ
-L n r s v = P r + 2 * n * s + v + 1
+L n N s v = P N + 2 * n * s + v + 1
+
+-- the X and L variables are the first ones: there are P + 2n·r
+abbrev pub networkVariables : ℕ → ℕ → ℕ
+networkVariables n r = P (terminals r) + 2 * n * r
 
 -- "W(t,e) = B+(t−1)(2r+1)+e for e = 1..2r"
 unfoldable pub W : ℕ → ℕ → ℕ → ℕ → ℕ
@@ -51,26 +53,26 @@ S B i = B + i + 1
 
 -- group 1, the three clauses of i<j<k
 abbrev pub triple : ℕ → ℕ → ℕ → ℕ → Formula
-triple r i j k =
-    (neg (X r i j) ∷ neg (X r j k) ∷ pos (X r i k) ∷ [])
-    ∷ (neg (X r i j) ∷ neg (X r i k) ∷ pos (X r j k) ∷ [])
-    ∷ (neg (X r i k) ∷ neg (X r j k) ∷ pos (X r i j) ∷ [])
+triple N i j k =
+    (neg (X N i j) ∷ neg (X N j k) ∷ pos (X N i k) ∷ [])
+    ∷ (neg (X N i j) ∷ neg (X N i k) ∷ pos (X N j k) ∷ [])
+    ∷ (neg (X N i k) ∷ neg (X N j k) ∷ pos (X N i j) ∷ [])
     ∷ []
 
 -- "For i<j<k"
 unfoldable pub transitivity : ℕ → Formula
-transitivity r =
-    for 0 (terminals r) (λ i. for (i + 1) (terminals r - (i + 1)) (λ j. for (j + 1) (terminals r - (j + 1)) (λ k. triple r i j k)))
+transitivity N =
+    for 0 N (λ i. for (i + 1) (N - (i + 1)) (λ j. for (j + 1) (N - (j + 1)) (λ k. triple N i j k)))
 
 -- group 2, "all L(s,v) in one clause; then (−L(s,v) −L(s,w)) for v<w"
 unfoldable pub choice : ℕ → ℕ → ℕ → Formula
-choice n r s =
-    for 0 (2 * n) (λ v. pos (L n r s v) ∷ [])
-    ∷ for 0 (2 * n) (λ v. for (v + 1) (2 * n - (v + 1)) (λ w. (neg (L n r s v) ∷ neg (L n r s w) ∷ []) ∷ []))
+choice n N s =
+    for 0 (2 * n) (λ v. pos (L n N s v) ∷ [])
+    ∷ for 0 (2 * n) (λ v. for (v + 1) (2 * n - (v + 1)) (λ w. (neg (L n N s v) ∷ neg (L n N s w) ∷ []) ∷ []))
 
 -- "For each s"
-unfoldable pub choices : ℕ → ℕ → Formula
-choices n r = for 0 r (choice n r)
+unfoldable pub choices : ℕ → ℕ → ℕ → Formula
+choices n N r = for 0 r (choice n N)
 
 -- group 3, an on row with M above 0. "for each t: W(t,1)..W(t,2r) Z(t)"
 unfoldable pub someStep : ℕ → ℕ → ℕ → Formula
@@ -80,28 +82,30 @@ someStep r m B = for 1 m (λ t. (for 1 (2 * r) (λ e. pos (W r B t e) ∷ []) ++
 unfoldable pub closedStep : ℕ → ℕ → ℕ → ℕ → (ℕ → Bool) → Formula
 closedStep n r m B value =
     for 1 m (λ t. for 1 (2 * r) (λ e. for 0 (2 * n) (λ v.
-    cond (value v) [] ((neg (W r B t e) ∷ neg (L n r (switchOf e) v) ∷ []) ∷ []))))
+    cond (value v) [] ((neg (W r B t e) ∷ neg (L n (terminals r) (switchOf e) v) ∷ []) ∷ []))))
 
 -- "Then for each e: (−W(1,e) X(0,e)); then (−Z(1) X(0,2r+1))"
 unfoldable pub firstStep : ℕ → ℕ → Formula
 firstStep r B =
-    for 1 (2 * r) (λ e. (neg (W r B 1 e) ∷ pos (X r source e) ∷ []) ∷ []) ++ ((neg (Z r B 1) ∷ pos (X r source (sink r)) ∷ []) ∷ [])
+    for 1 (2 * r) (λ e. (neg (W r B 1 e) ∷ pos (X (terminals r) source e) ∷ []) ∷ [])
+    ++ ((neg (Z r B 1) ∷ pos (X (terminals r) source (sink r)) ∷ []) ∷ [])
 
 -- "Then for t<M, for each e: for g = 1..2r except e' (−W(t,e) −W(t+1,g) X(e',g)), then (−W(t,e) −Z(t+1) X(e',2r+1))"
 unfoldable pub linkStep : ℕ → ℕ → ℕ → Formula
 linkStep r m B =
     for 1 (m - 1) (λ t. for 1 (2 * r) (λ e.
-    for 1 (2 * r) (λ g. cond (eqb g (other e)) [] ((neg (W r B t e) ∷ neg (W r B (t + 1) g) ∷ pos (X r (other e) g) ∷ []) ∷ []))
-    ++ ((neg (W r B t e) ∷ neg (Z r B (t + 1)) ∷ pos (X r (other e) (sink r)) ∷ []) ∷ [])))
+    for 1 (2 * r) (λ g. cond (eqb g (other e)) []
+    ((neg (W r B t e) ∷ neg (W r B (t + 1) g) ∷ pos (X (terminals r) (other e) g) ∷ []) ∷ []))
+    ++ ((neg (W r B t e) ∷ neg (Z r B (t + 1)) ∷ pos (X (terminals r) (other e) (sink r)) ∷ []) ∷ [])))
 
 -- "Then for each e: (−W(M,e) X(e',2r+1))"
 unfoldable pub lastStep : ℕ → ℕ → ℕ → Formula
-lastStep r m B = for 1 (2 * r) (λ e. (neg (W r B m e) ∷ pos (X r (other e) (sink r)) ∷ []) ∷ [])
+lastStep r m B = for 1 (2 * r) (λ e. (neg (W r B m e) ∷ pos (X (terminals r) (other e) (sink r)) ∷ []) ∷ [])
 
 -- "On row, M = 0: (X(0,2r+1)). Otherwise" the five above
 unfoldable pub onRow : ℕ → ℕ → ℕ → ℕ → (ℕ → Bool) → Formula
 onRow n r m B value =
-    cond (eqb m 0) ((pos (X r source (sink r)) ∷ []) ∷ [])
+    cond (eqb m 0) ((pos (X (terminals r) source (sink r)) ∷ []) ∷ [])
     (someStep r m B ++ (closedStep n r m B value ++ (firstStep r B ++ (linkStep r m B ++ lastStep r m B))))
 
 -- an off row, two terminals whose sides are a and b, on one side where x is true: "(−x −a b), (−x a −b)"
@@ -110,19 +114,19 @@ sameSide x a b = (neg x ∷ neg a ∷ pos b ∷ []) ∷ (neg x ∷ pos a ∷ neg
 
 -- "for i<j (−X(i,j) −S(i) S(j)), (−X(i,j) S(i) −S(j))"
 unfoldable pub netSides : ℕ → ℕ → Formula
-netSides r B =
-    for 0 (terminals r) (λ i. for (i + 1) (terminals r - (i + 1)) (λ j.
-    sameSide (X r i j) (S B i) (S B j)))
+netSides N B =
+    for 0 N (λ i. for (i + 1) (N - (i + 1)) (λ j.
+    sameSide (X N i j) (S B i) (S B j)))
 
 -- "for each s with ends a, b and v that is 1 on the row (−L(s,v) −S(a) S(b)), (−L(s,v) S(a) −S(b))"
-unfoldable pub switchSides : ℕ → ℕ → ℕ → (ℕ → Bool) → Formula
-switchSides n r B value =
+unfoldable pub switchSides : ℕ → ℕ → ℕ → ℕ → (ℕ → Bool) → Formula
+switchSides n N r B value =
     for 0 r (λ s. for 0 (2 * n) (λ v.
-    cond (value v) (sameSide (L n r s v) (S B (2 * s + 1)) (S B (2 * s + 2))) []))
+    cond (value v) (sameSide (L n N s v) (S B (2 * s + 1)) (S B (2 * s + 2))) []))
 
 -- "Off row: (−S(0)); (S(2r+1));" and the two above
-unfoldable pub offRow : ℕ → ℕ → ℕ → (ℕ → Bool) → Formula
-offRow n r B value = (neg (S B source) ∷ []) ∷ (pos (S B (sink r)) ∷ []) ∷ (netSides r B ++ switchSides n r B value)
+unfoldable pub offRow : ℕ → ℕ → ℕ → ℕ → (ℕ → Bool) → Formula
+offRow n N r B value = (neg (S B source) ∷ []) ∷ (pos (S B (sink r)) ∷ []) ∷ (netSides N B ++ switchSides n N r B value)
 
 -- the variables of a row
 unfoldable pub rowVariables : ℕ → ℕ → Row → ℕ
@@ -130,7 +134,7 @@ rowVariables r m row = cond (row .on) (m * (2 * r + 1)) (terminals r)
 
 -- the clauses of a row
 unfoldable pub rowClauses : ℕ → ℕ → ℕ → ℕ → Row → Formula
-rowClauses n r m B row = cond (row .on) (onRow n r m B (row .value)) (offRow n r B (row .value))
+rowClauses n r m B row = cond (row .on) (onRow n r m B (row .value)) (offRow n (terminals r) r B (row .value))
 
 -- "Then rows rising. With B variables before it"
 unfoldable pub rowsFrom : ℕ → ℕ → ℕ → ℕ → List Row → Formula
@@ -139,7 +143,8 @@ rowsFrom n r m B (row ∷ rows) = rowClauses n r m B row ++ rowsFrom n r m (B + 
 
 -- groups 1, 2 and 3, over a list of rows
 unfoldable pub formula : ℕ → ℕ → ℕ → List Row → Formula
-formula n r m rows = transitivity r ++ (choices n r ++ rowsFrom n r m (P r + 2 * n * r) rows)
+formula n r m rows =
+    transitivity (terminals r) ++ (choices n (terminals r) r ++ rowsFrom n r m (networkVariables n r) rows)
 
 -- the clauses of a request
 unfoldable pub formulaOf : Request → Formula

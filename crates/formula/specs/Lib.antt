@@ -5,5 +5,3 @@ pub mod Pairs
 pub mod Values
 pub mod Count
 pub mod Number
-pub mod Named
-pub mod Row

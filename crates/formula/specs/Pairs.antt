@@ -1,8 +1,6 @@
 -- Pairs and triples below a number, numbered from 0 in order. Assumes nothing.
 use mathlib.Core.Path.{_≡_}
-use mathlib.Core.Bool.{cond}
-use Prim.Native.Nat.{ℕ, zero, suc, _+_, _-_, _≤_, _<_}
-use lib.Dec.{leb}
+use Prim.Native.Nat.{ℕ, zero, suc, _+_, _-_, _<_}
 pub mod Laws
 
 -- the number of pairs v < w below c whose v is below k
@@ -15,16 +13,6 @@ pub record PairIs (c q v w : ℕ) : Type 0 where
   pub up : v < w
   pub within : w < c
   pub place : q ≡ pairsBefore c v + (w - (v + 1))
-
--- the number of all pairs below c, for c up to 16; 0 above
-unfoldable pub pairCount : ℕ → ℕ
-pairCount c = cond (leb c 16) (pairsBefore c c) 0
-
--- v and w are the pair with the number q among the pairs below c, and 0 and 0 where there is none; no other v and w are
--- (`pair-unique` of the laws)
-pub record PairAt (c q v w : ℕ) : Type 0 where
-  pub there : q < pairCount c → PairIs c q v w
-  pub none : pairCount c ≤ q → (v ≡ 0) × (w ≡ 0)
 
 -- the number of triples i < j < k below c whose i is below h
 unfoldable pub triplesBefore : ℕ → ℕ → ℕ

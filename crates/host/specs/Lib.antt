@@ -1,2 +1,3 @@
--- What the entries for a host answer. Assumes nothing.
+-- What the entries for a host answer, and a network as bytes. Assumes nothing.
+pub mod Bytes
 pub mod Entries

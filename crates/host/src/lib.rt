@@ -1,14 +1,14 @@
 // The entries that a host in C or C++ calls: numbers and slices in, a number out, 0 for "taken", "none", "does" or "least". A slice passes
 // as a pointer and a length, an array as a pointer. On a refusal what stands behind n, table, r, m, variables, clauses, literals and size
 // stays; count, number and network are always written.
+use crate::bytes::NetworkBytes;
+use dimacs::Answer;
 use lrat::Outcome;
 use network::Checked;
 use request::Reading;
 use request::Request;
 use settle::Verdict;
-use size::Answer;
 ghost use mathlib.Core.Path.{_≡_};
-ghost use mathlib.Core.List.{[], _∷_};
 ghost use lib.ListN.{length, getD};
 ghost use Rattle.request.specs.Numbers.{asked, refusalOf};
 ghost use Rattle.request.specs.Line.{requestNumber, requestValues};
@@ -16,15 +16,17 @@ ghost use Rattle.network.specs.Networks.{Does};
 ghost use Rattle.network.specs.Value.{listed};
 ghost use Rattle.network.specs.Check.{checkedNumber, checkedValues};
 ghost use Rattle.network.specs.Least.{LeastFor, MoreThan};
-ghost use Rattle.size.specs.File.{sizeValues, writeNumber, writeValues, fileWritten};
+ghost use Rattle.dimacs.specs.File.{sizeValues, writeNumber, writeValues, fileWritten};
 ghost use Rattle.answer.specs.Reading.{readingOf};
 ghost use Rattle.encoding.specs.Encoding.{FileMeans};
 ghost use Rattle.cnf.specs.Cnf.{Satisfiable};
 ghost use Rattle.formula.specs.Formula.{formulaOf};
-ghost use Rattle.refutation.specs.Refutation.{lent, checkNumber, checkValues, checkLeaves};
-ghost use Rattle.settle.specs.Settle.{verdictNumber, verdictValues, settleNumber, settleValues, settlement, settleLeaves};
-ghost use Rattle.network_bytes.specs.Bytes.{networkBytes, networkOf};
-ghost use Rattle.host.specs.Entries.{sizeNumbers, checkCode, checkDetail, verdictCode, verdictDetail};
+ghost use Rattle.lrat_check.specs.Refutation.{lent};
+ghost use Rattle.settle.specs.Settle.{verdictNumber, verdictValues};
+ghost use Rattle.host.specs.Bytes.{networkOf};
+ghost use Rattle.host.specs.Entries.{sizeNumbers, checkCode, checkDetail, verdictCode, verdictDetail, Checks, Settles};
+
+mod bytes;
 
 // Reads the line of a request: 0 and its four numbers, or the refusal.
 #[no_mangle]
@@ -41,7 +43,7 @@ pub extern "C" fn nk_read_request(
     ensures r { λ _. ⌜ now (r .exit) ≡ getD (requestValues (now (text .entry))) 2 (now (r .entry)) ⌝ }
     ensures m { λ _. ⌜ now (m .exit) ≡ getD (requestValues (now (text .entry))) 3 (now (m .entry)) ⌝ }
 {
-    match request_line::read_request(text) {
+    match request_read::read_request(text) {
         Reading::Taken(q) => {
             *n = q.n;
             *table = q.table;
@@ -69,7 +71,7 @@ pub extern "C" fn nk_sizes(
     ensures clauses { λ _. ⌜ now (clauses .exit) ≡ getD (sizeNumbers (asked n table r m)) 1 (now (clauses .entry)) ⌝ }
     ensures literals { λ _. ⌜ now (literals .exit) ≡ getD (sizeNumbers (asked n table r m)) 2 (now (literals .entry)) ⌝ }
 {
-    let sizes = clauses::count::count(Request { n, table, r, m });
+    let sizes = formula_clauses::count::count(Request { n, table, r, m });
     if sizes.refusal != 0 {
         return sizes.refusal as u32;
     }
@@ -87,14 +89,14 @@ pub extern "C" fn nk_check_network(
     table: u16,
     r: u8,
     m: u8,
-    network: &[u8; 24],
+    network: &NetworkBytes,
     number: &mut u32,
 ) -> u32
     ensures answer { λ x. ⌜ x ≡ checkCode (checkedNumber (asked n table r m) (networkOf (now (network .entry)))) (checkedValues (asked n table r m) (networkOf (now (network .entry)))) ⌝ }
     ensures number { λ _. ⌜ now (number .exit) ≡ checkDetail (checkedNumber (asked n table r m) (networkOf (now (network .entry)))) (checkedValues (asked n table r m) (networkOf (now (network .entry)))) ⌝ }
     ensures does { λ x. ⌜ (x ≡ 0 → Does (asked n table r m) (listed r (networkOf (now (network .entry))))) ⌝ }
 {
-    let w = network_bytes::network_of(*network);
+    let w = bytes::network_of(*network);
     match network_check::check_network(Request { n, table, r, m }, w) {
         Checked::Does => {
             *number = 0;
@@ -117,7 +119,7 @@ pub extern "C" fn nk_file_size(n: u8, table: u16, r: u8, m: u8, size: &mut u64) 
     ensures refusal { λ x. ⌜ x ≡ refusalOf (asked n table r m) ⌝ }
     ensures size { λ _. ⌜ now (size .exit) ≡ getD (sizeValues (asked n table r m)) 0 (now (size .entry)) ⌝ }
 {
-    match size::file_size(Request { n, table, r, m }) {
+    match dimacs::size::file_size(Request { n, table, r, m }) {
         Answer::Bytes(k) => {
             *size = k as u64;
             0
@@ -141,7 +143,7 @@ pub extern "C" fn nk_write_file(
     ensures size { λ _. ⌜ now (size .exit) ≡ getD (writeValues (asked n table r m) (length (now (buffer .entry)))) 0 (now (size .entry)) ⌝ }
     ensures meaning { λ x. ⌜ (x ≡ 0 → FileMeans (asked n table r m)) ⌝ }
 {
-    match dimacs::write_file(Request { n, table, r, m }, buffer) {
+    match dimacs::write::write_file(Request { n, table, r, m }, buffer) {
         Answer::Bytes(count) => {
             *size = count as u64;
             0
@@ -155,7 +157,7 @@ pub extern "C" fn nk_write_file(
 pub extern "C" fn nk_test_answer(n: u8, table: u16, r: u8, m: u8, text: &[u8]) -> u32
     ensures { λ x. ⌜ x ≡ readingOf (asked n table r m) (now (text .entry)) .refusal ⌝ }
 {
-    let read = reading::read::read_answer(Request { n, table, r, m }, text);
+    let read = answer_read::read::read_answer(Request { n, table, r, m }, text);
     read.refusal as u32
 }
 
@@ -174,13 +176,11 @@ pub extern "C" fn nk_check_refutation(
     values: &mut [u8],
     count: &mut u32,
 ) -> u32
-    ensures number { λ x. ⌜ x ≡ checkNumber (asked n table r m) (now (text .entry)) (lent (now (literals .entry)) (now (pairs .entry)) (now (added .entry)) (now (values .entry))) ⌝ }
-    ensures count { λ _. ⌜ now (count .exit) ∷ [] ≡ checkValues (asked n table r m) (now (text .entry)) (lent (now (literals .entry)) (now (pairs .entry)) (now (added .entry)) (now (values .entry))) ⌝ }
-    ensures slices { λ _. ⌜ lent (now (literals .exit)) (now (pairs .exit)) (now (added .exit)) (now (values .exit)) ≡ checkLeaves (asked n table r m) (now (text .entry)) (lent (now (literals .entry)) (now (pairs .entry)) (now (added .entry)) (now (values .entry))) ⌝ }
+    ensures checks { λ x. ⌜ Checks (asked n table r m) (now (text .entry)) (lent (now (literals .entry)) (now (pairs .entry)) (now (added .entry)) (now (values .entry))) x (now (count .exit)) (lent (now (literals .exit)) (now (pairs .exit)) (now (added .exit)) (now (values .exit))) ⌝ }
     ensures sound { λ x. ⌜ (x ≡ 0 → Satisfiable (formulaOf (asked n table r m)) → ⊥) ⌝ }
     ensures more { λ x. ⌜ (x ≡ 0 → MoreThan (asked n table r m)) ⌝ }
 {
-    let checked = refutation::check(
+    let checked = lrat_check::check::check(
         Request { n, table, r, m },
         text,
         literals,
@@ -234,13 +234,10 @@ pub extern "C" fn nk_settle(
     pairs: &mut [u32],
     added: &mut [u32],
     values: &mut [u8],
-    network: &mut [u8; 24],
+    network: &mut NetworkBytes,
     number: &mut u32,
 ) -> u32
-    ensures verdict { λ x. ⌜ x ≡ verdictCode (settleValues (asked n table k m) (now (answer .entry)) (now (refutation .entry)) (lent (now (literals .entry)) (now (pairs .entry)) (now (added .entry)) (now (values .entry)))) ⌝ }
-    ensures number { λ _. ⌜ now (number .exit) ≡ verdictDetail (settleNumber (asked n table k m) (now (answer .entry))) (settleValues (asked n table k m) (now (answer .entry)) (now (refutation .entry)) (lent (now (literals .entry)) (now (pairs .entry)) (now (added .entry)) (now (values .entry)))) ⌝ }
-    ensures network { λ _. ⌜ now (network .exit) ≡ networkBytes (settlement (asked n table k m) (now (answer .entry)) (now (refutation .entry)) (lent (now (literals .entry)) (now (pairs .entry)) (now (added .entry)) (now (values .entry))) .network) ⌝ }
-    ensures slices { λ _. ⌜ lent (now (literals .exit)) (now (pairs .exit)) (now (added .exit)) (now (values .exit)) ≡ settleLeaves (asked n table k m) (now (answer .entry)) (now (refutation .entry)) (lent (now (literals .entry)) (now (pairs .entry)) (now (added .entry)) (now (values .entry))) ⌝ }
+    ensures settles { λ x. ⌜ Settles (asked n table k m) (now (answer .entry)) (now (refutation .entry)) (lent (now (literals .entry)) (now (pairs .entry)) (now (added .entry)) (now (values .entry))) x (now (number .exit)) (now (network .exit)) (lent (now (literals .exit)) (now (pairs .exit)) (now (added .exit)) (now (values .exit))) ⌝ }
     ensures least { λ x. ⌜ (x ≡ 0 → LeastFor (asked n table k m) (networkOf (now (network .exit)))) ⌝ }
 {
     let settled = settle::settle(
@@ -253,7 +250,7 @@ pub extern "C" fn nk_settle(
         values,
     );
     let w = settled.network;
-    *network = network_bytes::network_bytes(w);
+    *network = bytes::network_bytes(w);
     let verdict = settled.verdict;
     *number = verdict_detail(k, verdict);
     verdict_code(k, verdict)

@@ -1,6 +1,6 @@
 -- The value bytes, and clauses of the store under them. Assumes nothing.
 use mathlib.Core.Path.{_≡_}
-use mathlib.Core.Bool.{Bool, true, false, cond}
+use mathlib.Core.Bool.{Bool, true, cond}
 use mathlib.Core.List.{List, [], _∷_}
 use mathlib.Core.Option.{Option, none, some}
 use Prim.Native.Nat.{ℕ, zero, suc, _+_, _*_, _≤_, _<_}
@@ -15,15 +15,18 @@ use Rattle.cnf.specs.declared.Literal.{Literal}
 use Rattle.numeral.specs.declared.Word.{Word}
 use Rattle.numeral.specs.Number.{word}
 use Rattle.lrat.specs.declared.Found.{Found}
-use Rattle.lrat.specs.declared.Said.{Said}
-use Rattle.lrat.specs.Rules.{Values, unset, falsified, literalsGood, literalValue, minusOf, found}
-use Rattle.lrat.specs.Words.{literal, literalsAt, run, runAt}
+use Rattle.lrat.specs.declared.LiteralsRead.{LiteralsRead}
+use Rattle.lrat.specs.Rules.{Values, unset, falsified, literalsGood, minusOf, found}
+use Rattle.lrat.specs.Words.{literalsAt, run, runAt}
 use Rattle.numeral.specs.Number.{literalAt}
 pub mod Laws
 pub mod Scan
 
 -- ---- a line's stamp g says what a byte means: below g the variable is unset, g is false, g + 1 is true; so no byte has to be
 -- cleared before the next line, whose stamp is higher
+abbrev pub lastStamp : ℕ
+lastStamp = 253
+
 abbrev pub stamped : ℕ → ℕ → Option Bool
 stamped g b = cond (ltb b g) none (some (ltb g b))
 
@@ -31,25 +34,17 @@ abbrev pub valuesIn : ℕ → List ℕ → Values
 valuesIn g vs u = stamped g (getD vs u 0)
 
 -- during a line every byte is at most g + 1, and before it below g
-pub record Small (g : ℕ) (vs : List ℕ) : Type 0 where
+pub record DuringLine (g : ℕ) (vs : List ℕ) : Type 0 where
   pub most : (u : ℕ) → getD vs u 0 ≤ g + 1
 
-pub record Old (g : ℕ) (vs : List ℕ) : Type 0 where
+pub record BeforeLine (g : ℕ) (vs : List ℕ) : Type 0 where
   pub less : (u : ℕ) → getD vs u 0 < g
 
 -- n values, each unset under every stamp
 unfoldable pub zeros : ℕ → List ℕ
 zeros n = replicate n 0
 
--- ---- a literal's value as a number, and a clause under the bytes
-abbrev pub side : Option Bool → ℕ
-side none = 0
-side (some false) = 1
-side (some true) = 2
-
-unfoldable pub valueOf : ℕ → List ℕ → ℕ → ℕ → ℕ
-valueOf g vs m v = side (literalValue (valuesIn g vs) (literal m v))
-
+-- ---- a clause under the bytes
 unfoldable pub foundIn : ℕ → List ℕ → Clause → Found
 foundIn g vs c = found (valuesIn g vs) c
 
@@ -77,14 +72,14 @@ storeFrom (suc n) lits i = literalFrom (getD lits i (Z.pos 0)) ∷ storeFrom n l
 unfoldable pub storedClause : List ℤ → List ℕ → ℕ → Clause
 storedClause lits pairs k = storeFrom (getD pairs (2 * k + 1) 0) lits (getD pairs (2 * k) 0)
 
--- the first c clauses
-unfoldable pub held : ℕ → List ℤ → List ℕ → Formula
-held c lits pairs = tab 0 c (storedClause lits pairs)
+-- the first C clauses as a formula
+unfoldable pub formulaIn : ℕ → List ℤ → List ℕ → Formula
+formulaIn C lits pairs = tab 0 C (storedClause lits pairs)
 
--- ---- what the pass over a line's literals tells, and the values it leaves: the form of their run; and where that is good, whether
--- they are inside ±V and no variable twice, and the values with each of them set false
-pub record Told (g top : ℕ) (t : List ℕ) (at : ℕ) (r : Said) (vs : List ℕ) : Type 0 where
+-- ---- after the pass over a line's literals: the form of their run; and where that is good, whether they are inside ±V and no
+-- variable twice, and the values with each of them set false
+pub record AfterLiterals (g variables : ℕ) (t : List ℕ) (at : ℕ) (r : LiteralsRead) (vs : List ℕ) : Type 0 where
   pub form : run (r .end) (r .next) ≡ runAt literalAt t at
-  pub small : Small g vs
-  pub good : (r .next ≡ 0 → ⊥) → r .good ≡ literalsGood top (literalsAt t at)
+  pub during : DuringLine g vs
+  pub good : (r .next ≡ 0 → ⊥) → r .good ≡ literalsGood variables (literalsAt t at)
   pub vals : (r .next ≡ 0 → ⊥) → r .good ≡ true → valuesIn g vs ≡ falsified unset (literalsAt t at)

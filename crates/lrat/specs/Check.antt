@@ -6,13 +6,13 @@ use lib.Dec.{eqb, ltb}
 use lib.ListN.{length, set}
 use Rattle.cnf.specs.Cnf.{Clause, Formula}
 use Rattle.lrat.specs.declared.Step.{Step}
-use Rattle.lrat.specs.Rules.{unset, falsified, literalsGood}
+use Rattle.lrat.specs.Rules.{unset, falsified, literalsGood, conflict, goesOn, saysNone}
 use Rattle.lrat.specs.Words.{literalsAt, idsAt, Line, noLine, addition, deletion, lineAt}
 use Rattle.lrat.specs.State.{hintsOf, deleteAll}
 pub mod Laws
 pub mod Sound
 
--- what a line leaves: 0 to go on, 1 for "none", else the refusal; the number of added pairs, the next line, the added pairs
+-- what a line leaves: its code, the number of added pairs, the next line, the added pairs
 pub record Left : Type 0 where
   pub code : ℕ
   pub a : ℕ
@@ -29,6 +29,10 @@ stop code a added = left code a 0 added
 abbrev pub leaves : Step → List ℕ → Left
 leaves r added = left (r .code) (r .a) (r .next) added
 
+-- what the code returns where it stops
+abbrev pub stopped : ℕ → ℕ → Step
+stopped code a = record { code = code; a = a; next = 0 }
+
 abbrev pub isEmpty : Clause → Bool
 isEmpty [] = true
 isEmpty (l ∷ c) = false
@@ -40,14 +44,14 @@ pushed added a at end = set (set added (2 * a) (at + 1)) (2 * a + 1) (end - (at 
 -- a line whose hints ended in k: "The empty clause ends the check with \"none\"", another one is added
 unfoldable pub concluded : ℕ → Bool → ℕ → List ℕ → ℕ → ℕ → ℕ → Left
 concluded k empty a added at end next =
-    cond (eqb k 0) (cond empty (stop 1 a added) (left 0 (a + 1) next (pushed added a at end))) (stop k a added)
+    cond (eqb k conflict) (cond empty (stop saysNone a added) (left goesOn (a + 1) next (pushed added a at end))) (stop k a added)
 
 -- "17 id not the next (first C+1); 18 literal outside ±V or variable twice; 22 no place for the pair of a non-empty clause; then
 -- hints"
 unfoldable pub addStep : Formula → List ℕ → ℕ → ℕ → List ℕ → ℕ → ℕ → ℕ → ℕ → ℕ → Left
-addStep F t top a added id at end hints next =
+addStep F t variables a added id at end hints next =
     cond (eqb id (length F + a + 1))
-    (cond (literalsGood top (literalsAt t at))
+    (cond (literalsGood variables (literalsAt t at))
     (cond (not (isEmpty (literalsAt t at)) && ltb (length added) (2 * a + 2)) (stop 22 a added)
     (concluded (hintsOf F t a added (falsified unset (literalsAt t at)) hints) (isEmpty (literalsAt t at)) a added at end next))
     (stop 18 a added))
@@ -60,22 +64,23 @@ deleteStep F t a added at next =
 
 -- "Per line: 16 bad form" first, of the whole line
 unfoldable pub stepOf : Formula → List ℕ → ℕ → ℕ → List ℕ → Line → Left
-stepOf F t top a added noLine = stop 16 a added
-stepOf F t top a added (addition id at end hints next) = addStep F t top a added id at end hints next
-stepOf F t top a added (deletion at next) = deleteStep F t a added at next
+stepOf F t variables a added noLine = stop 16 a added
+stepOf F t variables a added (addition id at end hints next) = addStep F t variables a added id at end hints next
+stepOf F t variables a added (deletion at next) = deleteStep F t a added at next
 
 unfoldable pub lineStep : Formula → List ℕ → ℕ → ℕ → List ℕ → ℕ → Left
-lineStep F t top a added p = stepOf F t top a added (lineAt t p)
+lineStep F t variables a added p = stepOf F t variables a added (lineAt t p)
 
 -- lines from p on, f of them at most: "text after it is unread. 23 if text ends first"
 abbrev pub onLeft : Left → (ℕ → List ℕ → ℕ → Left) → Left
-onLeft l k = cond (eqb (l .code) 0) (k (l .a) (l .added) (l .next)) (stop (l .code) (l .a) (l .added))
+onLeft l k = cond (eqb (l .code) goesOn) (k (l .a) (l .added) (l .next)) (stop (l .code) (l .a) (l .added))
 
 unfoldable pub linesFrom : ℕ → Formula → List ℕ → ℕ → ℕ → List ℕ → ℕ → Left
-linesFrom zero F t top a added p = stop 23 a added
-linesFrom (suc f) F t top a added p =
-    cond (ltb p (length t)) (onLeft (lineStep F t top a added p) (λ b l q. linesFrom f F t top b l q)) (stop 23 a added)
+linesFrom zero F t variables a added p = stop 23 a added
+linesFrom (suc f) F t variables a added p =
+    cond (ltb p (length t)) (onLeft (lineStep F t variables a added p)
+    (λ b l q. linesFrom f F t variables b l q)) (stop 23 a added)
 
 -- a line has a byte at least
 unfoldable pub linesOf : Formula → List ℕ → ℕ → List ℕ → Left
-linesOf F t top added = linesFrom (length t) F t top 0 added 0
+linesOf F t variables added = linesFrom (length t) F t variables 0 added 0

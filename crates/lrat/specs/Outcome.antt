@@ -6,6 +6,7 @@ use lib.Dec.{eqb}
 use Rattle.lrat.specs.declared.Checked.{Checked}
 use Rattle.lrat.specs.declared.Outcome.{Outcome}
 use Rattle.lrat.specs.declared.Outcome.the-variants.{None, Refused}
+use Rattle.lrat.specs.Rules.{saysNone}
 pub mod Laws
 
 -- document 01's number of an outcome, 0 for "none"
@@ -20,10 +21,10 @@ numberOf x = outcomeNumber (x .outcome)
 abbrev pub valuesOf : Checked → List ℕ
 valuesOf x = x .count ∷ []
 
--- the outcome of lines that end in a code: 1 is "none"
+-- the outcome of lines that end in a code
 unfoldable pub outcomeOf : ℕ → Outcome
-outcomeOf code = cond (eqb code 1) None (Refused code)
+outcomeOf code = cond (eqb code saysNone) None (Refused code)
 
 -- and its number
 unfoldable pub endNumber : ℕ → ℕ
-endNumber code = cond (eqb code 1) 0 code
+endNumber code = cond (eqb code saysNone) 0 code

@@ -40,8 +40,9 @@ named v [] = false
 named v (l ∷ c) = eqb v (l .variable) || named v c
 
 abbrev pub literalsGood : ℕ → Clause → Bool
-literalsGood top [] = true
-literalsGood top (l ∷ c) = leb 1 (l .variable) && (leb (l .variable) top && (not (named (l .variable) c) && literalsGood top c))
+literalsGood variables [] = true
+literalsGood variables (l ∷ c) =
+    leb 1 (l .variable) && (leb (l .variable) variables && (not (named (l .variable) c) && literalsGood variables c))
 
 -- a clause under the values, from its first literal on: o is the value of a literal l, and f what the literals after it are
 abbrev pub minusOf : Bool → ℕ
@@ -61,15 +62,29 @@ abbrev pub found : Values → Clause → Found
 found τ [] = AllFalse
 found τ (l ∷ c) = before (literalValue τ l) l (found τ c)
 
--- "all literals false is the conflict, later hints are unread; one unset and the rest false sets it true; else 20": 0 for the
--- conflict, and k goes on after a literal was set true
+-- what hints end in: the conflict, or a refusal, such as "21 hints spent without conflict"
+abbrev pub conflict : ℕ
+conflict = 0
+
+abbrev pub spent : ℕ
+spent = 21
+
+-- a line's code where the check goes on, and where it ends in "none"; every other code is a refusal's number
+abbrev pub goesOn : ℕ
+goesOn = 0
+
+abbrev pub saysNone : ℕ
+saysNone = 1
+
+-- "all literals false is the conflict, later hints are unread; one unset and the rest false sets it true; else 20"; k goes on
+-- after a literal was set true
 abbrev pub afterFound : Found → (ℕ → ℕ → ℕ) → ℕ
-afterFound AllFalse k = 0
+afterFound AllFalse k = conflict
 afterFound (Unset v m) k = k v m
 afterFound Other k = 20
 
--- "A hint: 19 if its clause doesn't stand", "21 hints spent without conflict": 0 for the conflict, else the refusal
+-- "A hint: 19 if its clause doesn't stand"
 abbrev pub hinted : (ℕ → Bool) → (ℕ → Clause) → Values → List ℕ → ℕ
-hinted stands clause τ [] = 21
+hinted stands clause τ [] = spent
 hinted stands clause τ (x ∷ xs) =
     cond (stands x) (afterFound (found τ (clause x)) (λ v m. hinted stands clause (assign τ v (eqb m 0)) xs)) 19

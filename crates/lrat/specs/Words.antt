@@ -11,6 +11,10 @@ use Rattle.numeral.specs.Number.{byteAt, numberAt, literalAt}
 pub mod Laws
 pub mod Lines
 
+-- "15 for text above 16,777,215 bytes"
+abbrev pub textLimit : ℕ
+textLimit = 16777215
+
 -- how a number is read: literalAt with a minus where one stands, plainAt without
 abbrev pub Reader : Type 0
 Reader = List ℕ → ℕ → Word

@@ -1,4 +1,11 @@
-// The rules of a refutation's lines (document 01, "Checking a refutation"), over any clauses: in specs/. Its code is the types below.
+// The rules of a refutation's lines (document 01, "Checking a refutation"), over any clauses: in specs/. Its code is the bounds
+// and types below.
+
+// "15 for text above 16,777,215 bytes".
+pub const TEXT_LIMIT: usize = 16777215;
+
+// The highest stamp of a line: it and the one above it fit into a byte.
+pub const LAST_STAMP: u8 = 253;
 
 // What the literals of a clause are under the values: all false; all false but one, which is unset, with its variable and 1 for a
 // minus; or anything else.
@@ -8,22 +15,32 @@ pub enum Found {
     Other,
 }
 
-// What the pass over a line's literals tells: where they end, the place after their 0, 0 where their run has not the form; and
+// What is read of a line's literals: where they end, the place after their 0, 0 where their run has not the form; and
 // whether they are inside ±V and no variable twice.
-pub struct Said {
+pub struct LiteralsRead {
     pub end: usize,
     pub next: usize,
     pub good: bool,
 }
 
-// What the pass over a line's hints tells: the place after their 0, 0 where their run has not the form; and 0 for the conflict, or the
-// number of a refusal.
-pub struct Ended {
+// The code of hints that end in the conflict; every other code is a refusal's number. "21 hints spent without conflict" is also the
+// code while there are more hints, after each so far has set a literal true.
+pub const CONFLICT: u8 = 0;
+
+pub const SPENT: u8 = 21;
+
+// What is read of a line's hints: the place after their 0, 0 where their run has not the form; and their code.
+pub struct HintsRead {
     pub next: usize,
     pub code: u8,
 }
 
-// What a line leaves: 0 to go on, 1 for none, else a refusal; the number of added pairs; the next line.
+// The code of a line after which the check goes on, and of one that ends it in "none"; every other code is a refusal's number.
+pub const GOES_ON: u8 = 0;
+
+pub const NONE: u8 = 1;
+
+// What a line leaves: its code, the number of added pairs, the next line.
 pub struct Step {
     pub code: u8,
     pub a: usize,

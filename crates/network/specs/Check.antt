@@ -8,7 +8,7 @@ use Rattle.prelude.specs.Lists.{anyFrom, allFrom, firstOf}
 use Rattle.request.specs.Numbers.{refusalOf}
 use Rattle.rows.specs.Rows.{Row, rowsOf}
 use Rattle.request.specs.declared.Request.{Request}
-use Rattle.network.specs.Networks.{Net, source, sink, switchOf, other, closedOn, labelAt}
+use Rattle.network.specs.Networks.{terminals, Net, source, sink, switchOf, other, closedOn, labelAt}
 use Rattle.network.specs.Value.{listed}
 use Rattle.network.specs.declared.Network.{Network}
 use Rattle.network.specs.declared.Checked.{Checked}
@@ -87,7 +87,7 @@ unfoldable pub literalsLow : ℕ → ℕ → (ℕ → ℕ) → Bool
 literalsLow n r literal = allFrom 0 r (λ s. ltb (literal s) (2 * n))
 
 unfoldable pub labelsLowest : ℕ → (ℕ → ℕ) → Bool
-labelsLowest r label = allFrom 0 (2 * r + 2) (λ i. leb (label i) i && eqb (label (label i)) (label i))
+labelsLowest r label = allFrom 0 (terminals r) (λ i. leb (label i) i && eqb (label (label i)) (label i))
 
 -- "13 if its r isn't the request's, or a literal or a label breaks the form"
 unfoldable pub fitting : Request → Network → Bool

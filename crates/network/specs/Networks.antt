@@ -10,6 +10,10 @@ use Rattle.rows.specs.Rows.{Row, rowsOf}
 use Rattle.request.specs.declared.Request.{Request}
 pub mod Laws
 
+-- "There are N = 2r+2 terminals"
+abbrev pub terminals : ℕ → ℕ
+terminals r = 2 * r + 2
+
 -- "0 is the source, 2r+1 the sink"
 abbrev pub source : ℕ
 source = 0
@@ -43,10 +47,10 @@ switches w = length (w .literals)
 -- lowest terminal of its net": a terminal of that net, at or below every terminal of it
 pub record FormedAs (n r : ℕ) (w : Net) : Type 0 where
   pub literals-long : length (w .literals) ≡ r
-  pub labels-long : length (w .labels) ≡ 2 * r + 2
+  pub labels-long : length (w .labels) ≡ terminals r
   pub literals-low : (s : ℕ) → s < r → literalAt w s < 2 * n
-  pub labels-low : (i : ℕ) → i < 2 * r + 2 → labelAt w i ≤ i
-  pub labels-own : (i : ℕ) → i < 2 * r + 2 → labelAt w (labelAt w i) ≡ labelAt w i
+  pub labels-low : (i : ℕ) → i < terminals r → labelAt w i ≤ i
+  pub labels-own : (i : ℕ) → i < terminals r → labelAt w (labelAt w i) ≡ labelAt w i
 
 -- the form of a network of any number of switches, for a request
 abbrev pub Formed : Request → Net → Type 0

@@ -1,5 +1,9 @@
 // Networks as values: the network of zeros, which goes with a refusal, and the comparison of two networks.
+use crate::LITERALS;
+use crate::Labels;
+use crate::Literals;
 use crate::Network;
+use crate::TERMINALS;
 ghost use mathlib.Core.Path.{_≡_};
 ghost use mathlib.Core.Bool.{Bool};
 ghost use Rattle.prelude.specs.Lists.{equalLists};
@@ -10,16 +14,16 @@ pub fn zero_network() -> Network
 {
     Network {
         r: 0,
-        literals: [0; 7],
-        labels: [0; 16],
+        literals: [0; LITERALS],
+        labels: [0; TERMINALS],
     }
 }
 
-fn same_literals(a: [u8; 7], b: [u8; 7]) -> bool
+fn same_literals(a: Literals, b: Literals) -> bool
     ensures { λ x. ⌜ x ≡ equalLists a b ⌝ }
 {
     let mut i: usize = 0;
-    while i < 7 {
+    while i < LITERALS {
         if a[i] != b[i] {
             return false;
         }
@@ -28,11 +32,11 @@ fn same_literals(a: [u8; 7], b: [u8; 7]) -> bool
     true
 }
 
-fn same_labels(a: [u8; 16], b: [u8; 16]) -> bool
+fn same_labels(a: Labels, b: Labels) -> bool
     ensures { λ x. ⌜ x ≡ equalLists a b ⌝ }
 {
     let mut i: usize = 0;
-    while i < 16 {
+    while i < TERMINALS {
         if a[i] != b[i] {
             return false;
         }

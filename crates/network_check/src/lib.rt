@@ -4,24 +4,34 @@
 // an off row the nets at the two ends of each closed switch are merged, one switch after the other, and the source and the sink
 // must stay apart. Merging needs no bound on the length of a walk.
 use network::Checked;
+use network::LITERALS;
+use network::Labels;
+use network::Literals;
 use network::Network;
+use network::TERMINALS;
 use request::Request;
 ghost use mathlib.Core.Path.{_≡_};
 ghost use mathlib.Core.Bool.{Bool, true, false};
 ghost use Prim.Native.Nat.{ℕ, _+_, _*_, _^_, _≤_, _<_};
 ghost use lib.ListN.{getD};
-ghost use Rattle.request.specs.Numbers.{Good};
+ghost use Rattle.request.specs.Numbers.{inputsMost, switchesMost, Good};
 ghost use Rattle.rows.specs.Rows.{literalOn, rowAt};
 ghost use Rattle.network.specs.Check.{shutAt, labelIn, nearIn, atSink, touching, nearer, near, move, apart, literalsLow, labelsLowest, rowRight, fitting, rowsAnswer, numberOf, valuesOf, checkedNumber, checkedValues, checkedOf};
-ghost use Rattle.network.specs.Value.{listed};
+ghost use Rattle.network.specs.Networks.{terminals};
+ghost use Rattle.network.specs.Value.{terminalsMost, listed};
 ghost use Rattle.network.specs.Meaning.{Means};
 
+// A mark for each switch, and one for each terminal.
+type Closed = [bool; LITERALS];
+
+type Marks = [bool; TERMINALS];
+
 // Which switches are closed on row k.
-fn closed_on(n: u8, k: u8, r: u8, literals: [u8; 7]) -> [bool; 7]
-    requires { ⌜ (1 ≤ n) × (n ≤ 4) × (k < 2 ^ n) × (r ≤ 7) × ((s : ℕ) → s < r → getD literals s 0 < 2 * n) ⌝ }
+fn closed_on(n: u8, k: u8, r: u8, literals: Literals) -> Closed
+    requires { ⌜ (1 ≤ n) × (n ≤ inputsMost) × (k < 2 ^ n) × (r ≤ switchesMost) × ((s : ℕ) → s < r → getD literals s 0 < 2 * n) ⌝ }
     ensures { λ x. ⌜ ((s : ℕ) → s < r → getD x s false ≡ literalOn n k (getD literals s 0)) ⌝ }
 {
-    let mut shut = [false; 7];
+    let mut shut = [false; LITERALS];
     let count = r as usize;
     let mut s: usize = 0;
     while s < count {
@@ -32,12 +42,12 @@ fn closed_on(n: u8, k: u8, r: u8, literals: [u8; 7]) -> [bool; 7]
 }
 
 // The terminals on the sink's net.
-fn at_sink(r: u8, labels: [u8; 16]) -> [bool; 16]
-    requires { ⌜ r ≤ 7 ⌝ }
-    ensures { λ x. ⌜ ((i : ℕ) → i < 2 * r + 2 → getD x i false ≡ atSink r (labelIn labels) i) ⌝ }
+fn at_sink(r: u8, labels: Labels) -> Marks
+    requires { ⌜ r ≤ switchesMost ⌝ }
+    ensures { λ x. ⌜ ((i : ℕ) → i < terminals r → getD x i false ≡ atSink r (labelIn labels) i) ⌝ }
 {
     let sink = 2 * (r as usize) + 1;
-    let mut x = [false; 16];
+    let mut x = [false; TERMINALS];
     let mut i: usize = 0;
     while i <= sink {
         x[i] = labels[i] == labels[sink];
@@ -47,8 +57,8 @@ fn at_sink(r: u8, labels: [u8; 16]) -> [bool; 16]
 }
 
 // Whether some closed switch leads from the net of terminal i to a terminal that is marked.
-fn touches(r: u8, shut: [bool; 7], labels: [u8; 16], marked: [bool; 16], i: usize) -> bool
-    requires { ⌜ (r ≤ 7) × (i < 16) ⌝ }
+fn touches(r: u8, shut: Closed, labels: Labels, marked: Marks, i: usize) -> bool
+    requires { ⌜ (r ≤ switchesMost) × (i < terminalsMost) ⌝ }
     ensures { λ x. ⌜ x ≡ touching r (shutAt shut) (labelIn labels) (nearIn marked) i ⌝ }
 {
     let ends = 2 * (r as usize);
@@ -64,9 +74,9 @@ fn touches(r: u8, shut: [bool; 7], labels: [u8; 16], marked: [bool; 16], i: usiz
 }
 
 // The terminals that are marked, and those one closed switch away from one that is.
-fn one_more(r: u8, shut: [bool; 7], labels: [u8; 16], marked: [bool; 16]) -> [bool; 16]
-    requires { ⌜ r ≤ 7 ⌝ }
-    ensures { λ x. ⌜ ((i : ℕ) → i < 2 * r + 2 → getD x i false ≡ nearer r (shutAt shut) (labelIn labels) (nearIn marked) i) ⌝ }
+fn one_more(r: u8, shut: Closed, labels: Labels, marked: Marks) -> Marks
+    requires { ⌜ r ≤ switchesMost ⌝ }
+    ensures { λ x. ⌜ ((i : ℕ) → i < terminals r → getD x i false ≡ nearer r (shutAt shut) (labelIn labels) (nearIn marked) i) ⌝ }
 {
     let count = 2 * (r as usize) + 2;
     let mut x = marked;
@@ -81,8 +91,8 @@ fn one_more(r: u8, shut: [bool; 7], labels: [u8; 16], marked: [bool; 16]) -> [bo
 }
 
 // Whether a walk of at most m closed switches joins the source's net to the sink's.
-fn near_source(r: u8, m: u8, shut: [bool; 7], labels: [u8; 16]) -> bool
-    requires { ⌜ r ≤ 7 ⌝ }
+fn near_source(r: u8, m: u8, shut: Closed, labels: Labels) -> bool
+    requires { ⌜ r ≤ switchesMost ⌝ }
     ensures { λ x. ⌜ x ≡ near r (shutAt shut) (labelIn labels) m 0 ⌝ }
 {
     let mut marked = at_sink(r, labels);
@@ -95,9 +105,9 @@ fn near_source(r: u8, m: u8, shut: [bool; 7], labels: [u8; 16]) -> bool
 }
 
 // The parts with part q made part p.
-fn merge(r: u8, parts: [u8; 16], p: u8, q: u8) -> [u8; 16]
-    requires { ⌜ r ≤ 7 ⌝ }
-    ensures { λ x. ⌜ ((i : ℕ) → i < 2 * r + 2 → getD x i 0 ≡ move true p q (getD parts i 0)) ⌝ }
+fn merge(r: u8, parts: Labels, p: u8, q: u8) -> Labels
+    requires { ⌜ r ≤ switchesMost ⌝ }
+    ensures { λ x. ⌜ ((i : ℕ) → i < terminals r → getD x i 0 ≡ move true p q (getD parts i 0)) ⌝ }
 {
     let count = 2 * (r as usize) + 2;
     let mut x = parts;
@@ -112,8 +122,8 @@ fn merge(r: u8, parts: [u8; 16], p: u8, q: u8) -> [u8; 16]
 }
 
 // Whether no walk of closed switches joins the source's net to the sink's.
-fn kept_apart(r: u8, shut: [bool; 7], labels: [u8; 16]) -> bool
-    requires { ⌜ r ≤ 7 ⌝ }
+fn kept_apart(r: u8, shut: Closed, labels: Labels) -> bool
+    requires { ⌜ r ≤ switchesMost ⌝ }
     ensures { λ x. ⌜ x ≡ apart r (shutAt shut) (labelIn labels) ⌝ }
 {
     let count = r as usize;
@@ -129,8 +139,8 @@ fn kept_apart(r: u8, shut: [bool; 7], labels: [u8; 16]) -> bool
 }
 
 // Whether every literal is below 2n.
-fn literals_low(n: u8, r: u8, literals: [u8; 7]) -> bool
-    requires { ⌜ (n ≤ 4) × (r ≤ 7) ⌝ }
+fn literals_low(n: u8, r: u8, literals: Literals) -> bool
+    requires { ⌜ (n ≤ inputsMost) × (r ≤ switchesMost) ⌝ }
     ensures { λ x. ⌜ x ≡ literalsLow n r (labelIn literals) ⌝ }
 {
     let count = r as usize;
@@ -145,8 +155,8 @@ fn literals_low(n: u8, r: u8, literals: [u8; 7]) -> bool
 }
 
 // Whether every label is the lowest terminal of its net.
-fn labels_lowest(r: u8, labels: [u8; 16]) -> bool
-    requires { ⌜ r ≤ 7 ⌝ }
+fn labels_lowest(r: u8, labels: Labels) -> bool
+    requires { ⌜ r ≤ switchesMost ⌝ }
     ensures { λ x. ⌜ x ≡ labelsLowest r (labelIn labels) ⌝ }
 {
     let count = 2 * (r as usize) + 2;

@@ -1,9 +1,8 @@
 -- Bool tests: what each says, both ways. `T b` is the proposition that the test b holds. Assumes nothing.
-use mathlib.Core.Path.{_≡_, refl, sym, ap, _∙_, subst}
+use mathlib.Core.Path.{_≡_, refl, sym, subst}
 use mathlib.Core.Bool.{Bool, true, false, not, _&&_, _||_, cond}
 use mathlib.Core.Logic.{_⊎_, inl, inr, _≢_}
 use Prim.Native.Nat.{ℕ, _≤_, _<_}
-use native.Mathlib.Omega.{arith}
 use lib.Dec.{T, T-not, not-T, eqb, leb, eqb→eq, eqb-refl, leb→le, nleb→lt}
 
 -- a test holds, or its negation does

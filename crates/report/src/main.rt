@@ -1,4 +1,4 @@
-// The report: reads request.txt, answer.txt and refutation.txt in the working folder, settles, and writes what reporting::report
+// The report: reads request.txt, answer.txt and refutation.txt in the working folder, settles, and writes what reports::report
 // makes. Each file may have up to 65,536 bytes; the first longer one, in that order, ends it with "too long" and the name. A missing
 // file is empty.
 
@@ -32,7 +32,7 @@ fn settle(request: &[u8], answer: &[u8], refutation: &[u8]) {
     let mut pairs = [0u32; 16384];
     let mut added = [0u32; 16384];
     let mut values = [0u8; 8192];
-    let text = reporting::report(
+    let text = reports::report(
         request,
         answer,
         refutation,

@@ -7,6 +7,7 @@ use Prim.Native.Nat.{ℕ, _+_, _*_}
 use lib.Dec.{ltb}
 use lib.ListN.{getD}
 use Rattle.prelude.specs.Blocks.{each}
+use Rattle.request.specs.Numbers.{switchesMost}
 use Rattle.network.specs.declared.Network.{Network}
 use Rattle.text.specs.Decimal.{decimal}
 pub mod Laws
@@ -31,7 +32,7 @@ switchText w s =
 
 -- how many switches have a line: r. Every network of ours has at most 7; for one whose r is above 7 this is 7
 unfoldable pub shownSwitches : Network → ℕ
-shownSwitches w = cond (ltb 7 (w .r)) 7 (w .r)
+shownSwitches w = cond (ltb switchesMost (w .r)) switchesMost (w .r)
 
 -- "sink c": the label of the terminal 2r+1
 unfoldable pub sinkText : Network → ℕ → List ℕ

@@ -9,6 +9,7 @@ use Rattle.prelude.specs.Lists.{allFrom}
 use Rattle.request.specs.declared.Request.{Request}
 use Rattle.request.specs.declared.Reading.{Reading}
 use Rattle.request.specs.declared.Reading.the-variants.{Taken, Refused}
+use Rattle.request.specs.Numbers.{inputsMost, switchesMost, seriesMost}
 pub mod Laws
 
 -- document 01's number of an answer, 0 for a request that is taken
@@ -54,10 +55,10 @@ tableAt s from (suc k) = getD s from 0 - 48 + 2 * tableAt s (suc from) k
 -- "2 bad n; 3 bad table; 4 bad r; 5 bad M", for runs that end at a, b, c and d: the first that applies, or 0
 unfoldable pub numbersRefusal : List ℕ → ℕ → ℕ → ℕ → ℕ → ℕ
 numbersRefusal s a b c d =
-    cond (not (leb 1 (single s 0 a) && leb (single s 0 a) 4)) 2
+    cond (not (leb 1 (single s 0 a) && leb (single s 0 a) inputsMost)) 2
     (cond (not (isTable s (a + 1) b (single s 0 a))) 3
-    (cond (ltb 7 (single s (b + 1) c)) 4
-    (cond (ltb 7 (single s (c + 1) d)) 5 0)))
+    (cond (ltb switchesMost (single s (b + 1) c)) 4
+    (cond (ltb seriesMost (single s (c + 1) d)) 5 0)))
 
 -- "A request is one line: n, the table, r, M": the request of these runs
 abbrev pub requestAt : List ℕ → ℕ → ℕ → ℕ → ℕ → Request

@@ -9,18 +9,32 @@ pub mod Laws
 abbrev pub asked : ℕ → ℕ → ℕ → ℕ → Request
 asked n table r m = record { n = n; table = table; r = r; m = m }
 
--- "n is 1 to 4 inputs, r is 0 to 7 switches, M is 0 to 7"; no table bit at or above 2^n
+-- "n is 1 to 4 inputs, r is 0 to 7 switches, M is 0 to 7": the most of each
+abbrev pub inputsMost : ℕ
+inputsMost = 4
+
+abbrev pub switchesMost : ℕ
+switchesMost = 7
+
+abbrev pub seriesMost : ℕ
+seriesMost = 7
+
+-- the most rows
+abbrev pub rowsMost : ℕ
+rowsMost = 2 ^ inputsMost
+
+-- a request's numbers are within these, and it has no table bit at or above 2^n
 pub record Good (q : Request) : Type 0 where
   pub n-low : 1 ≤ q .n
-  pub n-high : q .n ≤ 4
+  pub n-high : q .n ≤ inputsMost
   pub table-low : q .table < 2 ^ (2 ^ (q .n))
-  pub r-high : q .r ≤ 7
-  pub m-high : q .m ≤ 7
+  pub r-high : q .r ≤ switchesMost
+  pub m-high : q .m ≤ seriesMost
 
 -- "Each later operation tests its request again as numbers, 2 to 5 in order": the first that applies, or 0
 unfoldable pub refusalOf : Request → ℕ
 refusalOf q =
-    cond (not (leb 1 (q .n) && leb (q .n) 4)) 2
+    cond (not (leb 1 (q .n) && leb (q .n) inputsMost)) 2
     (cond (not (ltb (q .table) (2 ^ (2 ^ (q .n))))) 3
-    (cond (ltb 7 (q .r)) 4
-    (cond (ltb 7 (q .m)) 5 0)))
+    (cond (ltb switchesMost (q .r)) 4
+    (cond (ltb seriesMost (q .m)) 5 0)))

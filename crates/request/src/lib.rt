@@ -4,6 +4,15 @@
 // and out by value: it is four small numbers, and no operation changes one that it is given.
 pub mod numbers;
 
+// The most inputs.
+pub const INPUTS: u8 = 4;
+
+// The most switches.
+pub const SWITCHES: u8 = 7;
+
+// The highest series bound.
+pub const SERIES: u8 = 7;
+
 pub struct Request {
     pub n: u8,
     pub table: u16,

@@ -1,6 +1,9 @@
 // The test of a request given as numbers, which every later operation makes first: 0, or the first of the refusals 2 to 5 that
 // applies. The table is tested after n, since 2^n rows need a good n.
+use crate::INPUTS;
 use crate::Request;
+use crate::SERIES;
+use crate::SWITCHES;
 ghost use mathlib.Core.Path.{_≡_};
 ghost use Rattle.request.specs.Numbers.{refusalOf};
 
@@ -10,17 +13,17 @@ pub fn test_request(q: Request) -> u8
     if q.n < 1 {
         return 2;
     }
-    if 4 < q.n {
+    if INPUTS < q.n {
         return 2;
     }
     let rows = 1u32 << (q.n as u32);
     if (q.table as u32) >> rows != 0 {
         return 3;
     }
-    if 7 < q.r {
+    if SWITCHES < q.r {
         return 4;
     }
-    if 7 < q.m {
+    if SERIES < q.m {
         return 5;
     }
     0

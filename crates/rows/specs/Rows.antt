@@ -5,6 +5,7 @@ use Prim.Native.Nat.{ℕ, zero, suc, _+_, _-_, _*_, _/_, _%_, _^_}
 use lib.Dec.{eqb, leb, ltb}
 use lib.ListN.{getD}
 use Rattle.prelude.specs.Lists.{tab}
+use Rattle.request.specs.Numbers.{inputsMost}
 pub mod Laws
 
 -- bit k of a number, as a test
@@ -35,7 +36,7 @@ literalOn n k v = cond (ltb v n) (bit k (n - 1 - v)) (not (bit k (2 * n - 1 - v)
 
 -- the same, and false where there is no such literal or row
 unfoldable pub literalValue : ℕ → ℕ → ℕ → Bool
-literalValue n k v = leb 1 n && (leb n 4 && (ltb k (2 ^ n) && (ltb v (2 * n) && literalOn n k v)))
+literalValue n k v = leb 1 n && (leb n inputsMost && (ltb k (2 ^ n) && (ltb v (2 * n) && literalOn n k v)))
 
 -- what a row asks of a network: current or none, and the literals' values on it
 pub record Row : Type 0 where

@@ -1,11 +1,16 @@
 // Rows: which are on, how many, and the value of a literal on one.
+use request::INPUTS;
 ghost use mathlib.Core.Path.{_≡_};
 ghost use mathlib.Core.Bool.{Bool};
 ghost use Prim.Native.Nat.{ℕ, _*_, _^_, _≤_, _<_};
+ghost use Rattle.request.specs.Numbers.{inputsMost, rowsMost};
 ghost use Rattle.rows.specs.Rows.{bit, onBelow, inputRows, literalOn, literalValue};
 
-// The rows on which each input is 1, for n = 1 to 4.
-const INPUT_ROWS: [[u16; 4]; 4] = [
+// The most rows, as many as a table's number has bits.
+pub const ROWS: u32 = 1 << INPUTS;
+
+// The rows on which each input is 1, for n = 1 to the most inputs.
+const INPUT_ROWS: [[u16; INPUTS as usize]; INPUTS as usize] = [
     [0x2, 0, 0, 0],
     [0xC, 0xA, 0, 0],
     [0xF0, 0xCC, 0xAA, 0],
@@ -16,7 +21,7 @@ const INPUT_ROWS: [[u16; 4]; 4] = [
 pub fn row_on(table: u16, k: u8) -> bool
     ensures { λ x. ⌜ x ≡ bit table k ⌝ }
 {
-    if 15 < k {
+    if ROWS <= k as u32 {
         return false;
     }
     (table >> k) % 2 == 1
@@ -24,7 +29,7 @@ pub fn row_on(table: u16, k: u8) -> bool
 
 // The number of on rows.
 pub fn on_rows(table: u16) -> u32
-    ensures { λ x. ⌜ x ≡ onBelow table 16 ⌝ }
+    ensures { λ x. ⌜ x ≡ onBelow table rowsMost ⌝ }
 {
     u16::count_ones(table)
 }
@@ -33,15 +38,15 @@ pub fn on_rows(table: u16) -> u32
 pub fn on_rows_below(table: u16, k: u8) -> u32
     ensures { λ x. ⌜ x ≡ onBelow table k ⌝ }
 {
-    if 16 <= k {
-        return on_rows(table);
+    if (k as u32) < ROWS {
+        return u16::count_ones(table % (1u16 << k));
     }
-    u16::count_ones(table % (1u16 << k))
+    on_rows(table)
 }
 
 // The rows on which input v is 1.
 fn input_rows(n: u8, v: u8) -> u16
-    requires { ⌜ (1 ≤ n) × (n ≤ 4) × (v < n) ⌝ }
+    requires { ⌜ (1 ≤ n) × (n ≤ inputsMost) × (v < n) ⌝ }
     ensures { λ x. ⌜ x ≡ inputRows n v ⌝ }
 {
     INPUT_ROWS[(n - 1) as usize][v as usize]
@@ -49,7 +54,7 @@ fn input_rows(n: u8, v: u8) -> u16
 
 // The value of literal v on row k: an input, or the complement of one.
 fn literal_within(n: u8, k: u8, v: u8) -> bool
-    requires { ⌜ (1 ≤ n) × (n ≤ 4) × (k < 2 ^ n) × (v < 2 * n) ⌝ }
+    requires { ⌜ (1 ≤ n) × (n ≤ inputsMost) × (k < 2 ^ n) × (v < 2 * n) ⌝ }
     ensures { λ x. ⌜ x ≡ literalOn n k v ⌝ }
 {
     if v < n {
@@ -65,7 +70,7 @@ pub fn literal_on(n: u8, k: u8, v: u8) -> bool
     if n < 1 {
         return false;
     }
-    if 4 < n {
+    if INPUTS < n {
         return false;
     }
     if 1u32 << (n as u32) <= k as u32 {

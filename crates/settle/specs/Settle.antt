@@ -13,7 +13,7 @@ use Rattle.network.specs.Value.{zeros}
 use Rattle.answer.specs.Reading.{readingOf}
 use Rattle.lrat.specs.declared.Outcome.{Outcome}
 use Rattle.lrat.specs.declared.Outcome.the-variants.{None, Refused as outcomeRefused}
-use Rattle.refutation.specs.Refutation.{Lent, checkNumber, checkAnswer, checkLeaves}
+use Rattle.lrat_check.specs.Refutation.{Lent, checkNumber, checkAnswer, checkLeaves}
 use Rattle.settle.specs.declared.Settlement.{Settlement}
 use Rattle.settle.specs.declared.Verdict.{Verdict}
 use Rattle.settle.specs.declared.Verdict.the-variants.{Least, Works, Fails, Refused}
@@ -94,14 +94,14 @@ unfoldable pub leavesBelow : Request → List ℕ → Lent → Lent
 leavesBelow q refutation s = cond (eqb (q .r) 0) s (checkLeaves (smaller q) refutation s)
 
 -- the slices s by the check of the decoded network: only where it does the job is a refutation read, and l left
-abbrev pub leftBy : Checked → Lent → Lent → Lent
-leftBy does s l = l
-leftBy (Wrong row) s l = s
-leftBy (formRefused x) s l = s
+abbrev pub slicesAfter : Checked → Lent → Lent → Lent
+slicesAfter does s l = l
+slicesAfter (Wrong row) s l = s
+slicesAfter (formRefused x) s l = s
 
 -- the slices afterwards: "A refusal of 1 to 15 writes nothing"
 unfoldable pub settleLeaves : Request → List ℕ → List ℕ → Lent → Lent
 settleLeaves q answer refutation s =
     cond (eqb (readingOf q answer .refusal) 0)
-    (leftBy (checkedOf q (readingOf q answer .network)) s (leavesBelow q refutation s))
+    (slicesAfter (checkedOf q (readingOf q answer .network)) s (leavesBelow q refutation s))
     s

@@ -9,7 +9,7 @@ use network::Network;
 use request::Request;
 ghost use mathlib.Core.Path.{_≡_};
 ghost use Prim.Native.Nat.{_<_};
-ghost use Rattle.refutation.specs.Refutation.{lent};
+ghost use Rattle.lrat_check.specs.Refutation.{lent};
 ghost use Rattle.network.specs.Least.{LeastFor};
 ghost use Rattle.settle.specs.Settle.{verdictNumber, verdictValues, smaller, outcomeVerdict, refusedWith, settleNumber, settleValues, settlement, settleLeaves};
 ghost use Rattle.settle.specs.declared.Verdict.the-variants.{Least};
@@ -30,7 +30,7 @@ pub struct Settlement {
 }
 
 // A verdict with the network that the answer describes.
-fn told(verdict: Verdict, network: Network) -> Settlement
+fn with_network(verdict: Verdict, network: Network) -> Settlement
     ensures { λ x. ⌜ x ≡ record { verdict = verdict; network = network } ⌝ }
 {
     Settlement {
@@ -89,7 +89,7 @@ pub fn settle(
     ensures number { λ x. ⌜ verdictNumber (x .verdict) ≡ settleNumber q (now (answer .entry)) ⌝ }
     ensures values { λ x. ⌜ verdictValues (q .r) (x .verdict) ≡ settleValues q (now (answer .entry)) (now (refutation .entry)) (lent (now (literals .entry)) (now (pairs .entry)) (now (added .entry)) (now (values .entry))) ⌝ }
 {
-    let read = reading::read::read_answer(q, answer);
+    let read = answer_read::read::read_answer(q, answer);
     if read.refusal != 0 {
         return refused(read.refusal);
     }
@@ -97,14 +97,21 @@ pub fn settle(
     let checked = network_check::check_network(q, decoded);
     match checked {
         Checked::Refused(number) => refused(number),
-        Checked::Wrong(row) => told(Verdict::Fails(row), decoded),
+        Checked::Wrong(row) => with_network(Verdict::Fails(row), decoded),
         Checked::Does => {
             if q.r == 0 {
-                return told(Verdict::Least, decoded);
+                return with_network(Verdict::Least, decoded);
             }
-            let below = refutation::check(one_fewer(q), refutation, literals, pairs, added, values);
+            let below = lrat_check::check::check(
+                one_fewer(q),
+                refutation,
+                literals,
+                pairs,
+                added,
+                values,
+            );
             let outcome = below.outcome;
-            told(verdict_of(outcome), decoded)
+            with_network(verdict_of(outcome), decoded)
         }
     }
 }

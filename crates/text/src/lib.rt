@@ -1,10 +1,10 @@
-// How long decimal numbers and literals are as text, in bytes. What they, and clauses, are as text is in specs/.
-use cnf::Literal;
+// How long decimal and signed numbers are as text, in bytes. What they, literals and clauses are as text is in specs/.
 ghost use mathlib.Core.Path.{_≡_};
 ghost use Prim.Native.Nat.{_≤_};
 ghost use lib.ListN.{length};
 ghost use Rattle.text.specs.Decimal.{decimal};
-ghost use Rattle.text.specs.Text.{literalText};
+ghost use Rattle.prelude.specs.Signed.{variable};
+ghost use Rattle.text.specs.Text.{numberText};
 
 // The number of digits of x.
 pub fn decimal_length(x: u32) -> usize
@@ -13,13 +13,47 @@ pub fn decimal_length(x: u32) -> usize
     if x < 10 {
         return 1;
     }
-    decimal_length(x / 10) + 1
+    if x < 100 {
+        return 2;
+    }
+    if x < 1000 {
+        return 3;
+    }
+    if x < 10000 {
+        return 4;
+    }
+    if x < 100000 {
+        return 5;
+    }
+    if x < 1000000 {
+        return 6;
+    }
+    if x < 10000000 {
+        return 7;
+    }
+    if x < 100000000 {
+        return 8;
+    }
+    if x < 1000000000 {
+        return 9;
+    }
+    10
 }
 
-// The length of a literal with the space after it.
-pub fn literal_length(l: Literal) -> usize
-    ensures { λ k. ⌜ (k ≡ length (literalText l)) × (k ≤ 12) ⌝ }
+// The absolute value of x. Minus x is worked out as -1 - x, and one more, since it need not fit an i32.
+pub fn absolute(x: i32) -> u32
+    ensures { λ k. ⌜ k ≡ variable x ⌝ }
 {
-    let digits = decimal_length(l.variable);
-    if l.negative { digits + 2 } else { digits + 1 }
+    if x < 0 { (-1 - x) as u32 + 1 } else { x as u32 }
+}
+
+// The length of a signed number with the space after it.
+pub fn number_length(x: i32) -> usize
+    ensures { λ k. ⌜ (k ≡ length (numberText x)) × (k ≤ 12) ⌝ }
+{
+    if x < 0 {
+        decimal_length(absolute(x)) + 2
+    } else {
+        decimal_length(absolute(x)) + 1
+    }
 }

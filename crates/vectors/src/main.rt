@@ -11,7 +11,7 @@ fn number(x: u64) {
 }
 
 fn show_reading(text: &[u8]) {
-    match request_line::read_request(text) {
+    match request_read::read_request(text) {
         Reading::Taken(q) => {
             io::write_all(1, b"taken");
             number(q.n as u64);

@@ -13,8 +13,6 @@ use Rattle.prelude.specs.Tests.{T-of, or-l, or-r, or-cases}
 use Rattle.prelude.specs.Lists.{tab}
 use Rattle.prelude.specs.Lists.Laws.{length-tab, getD-tab, tab-more, first-is, first-none}
 use Rattle.formula.specs.Formula.{terminals, X, L}
-use Rattle.formula.specs.Named.{joinedNumber, chosenNumber}
-use Rattle.formula.specs.Named.Laws.{joined-there, chosen-there}
 use Rattle.answer.specs.Decode.{lowest, literalFor, labelFor}
 use Rattle.answer.specs.Values.{assigned}
 
@@ -56,50 +54,50 @@ fill-next f c s x h e g = ap₂ (λ (l : List ℕ) (y : ℕ). set l s y) e g ∙
 pub fill-end : (f : ℕ → ℕ) (c s k : ℕ) {l : List ℕ} → s ≡ k → l ≡ tab 0 s f ++ replicate (c - s) 0 → l ≡ tab 0 k f ++ replicate (c - k) 0
 fill-end f c s k e h = h ∙ ap (λ (j : ℕ). tab 0 j f ++ replicate (c - j) 0) e
 
-module _ (n r : ℕ) (values : List ℕ) (hn : n ≤ 4) (hr : r ≤ 7) (s : ℕ) (hs : s < r) where
+module _ (n r : ℕ) (values : List ℕ) (s : ℕ) where
   -- the test of one literal, by its variable's number
-  chosen-test : (v x : ℕ) (b : Bool) → v < 2 * n → x ≡ chosenNumber n r s v → b ≡ assigned values x → b ≡ assigned values (L n r s v)
-  chosen-test v x b h e f = f ∙ ap (assigned values) (e ∙ chosen-there n r s v hn hr hs h)
+  chosen-test : (v x : ℕ) (b : Bool) → x ≡ L n (terminals r) s v → b ≡ assigned values x → b ≡ assigned values (L n (terminals r) s v)
+  chosen-test v x b e f = f ∙ ap (assigned values) e
 
   -- a literal found, after those before it are not
-  pub literal-found : (v x : ℕ) (b : Bool) → v < 2 * n → x ≡ chosenNumber n r s v → b ≡ assigned values x → b ≡ true
-      → ((j : ℕ) → j < v → T (not (assigned values (L n r s j)))) → v ≡ literalFor n r (assigned values) s
+  pub literal-found : (v x : ℕ) (b : Bool) → v < 2 * n → x ≡ L n (terminals r) s v → b ≡ assigned values x → b ≡ true
+      → ((j : ℕ) → j < v → T (not (assigned values (L n (terminals r) s j)))) → v ≡ literalFor n r (assigned values) s
   unfolding literalFor
   literal-found v x b h e f t g =
-      sym (lowest-is (λ v. assigned values (L n r s v)) (2 * n) v h (T-of (assigned values (L n r s v)) (sym (chosen-test v x b h e f) ∙ t)) g)
+      sym (lowest-is (λ v. assigned values (L n (terminals r) s v)) (2 * n) v h (T-of (assigned values (L n (terminals r) s v)) (sym (chosen-test v x b e f) ∙ t)) g)
 
   -- one that is not
-  pub literal-not : (v x : ℕ) (b : Bool) → v < 2 * n → x ≡ chosenNumber n r s v → b ≡ assigned values x → b ≡ false → T (not (assigned values (L n r s v)))
-  literal-not v x b h e f t = T-of (not (assigned values (L n r s v))) (ap not (sym (chosen-test v x b h e f) ∙ t))
+  pub literal-not : (v x : ℕ) (b : Bool) → x ≡ L n (terminals r) s v → b ≡ assigned values x → b ≡ false → T (not (assigned values (L n (terminals r) s v)))
+  literal-not v x b e f t = T-of (not (assigned values (L n (terminals r) s v))) (ap not (sym (chosen-test v x b e f) ∙ t))
 
-  pub literal-none : (v : ℕ) → 2 * n ≤ v → v ≤ 2 * n → ((j : ℕ) → j < v → T (not (assigned values (L n r s j)))) → v ≡ literalFor n r (assigned values) s
+  pub literal-none : (v : ℕ) → 2 * n ≤ v → v ≤ 2 * n → ((j : ℕ) → j < v → T (not (assigned values (L n (terminals r) s j)))) → v ≡ literalFor n r (assigned values) s
   unfolding literalFor
   literal-none v h k g =
       let e : v ≡ 2 * n = omega arith in
-      e ∙ sym (lowest-none (λ v. assigned values (L n r s v)) (2 * n) (λ j l. g j (omega arith)))
+      e ∙ sym (lowest-none (λ v. assigned values (L n (terminals r) s v)) (2 * n) (λ j l. g j (omega arith)))
 
-module _ (r : ℕ) (values : List ℕ) (hr : r ≤ 7) (i : ℕ) (hi : i < terminals r) where
+module _ (r : ℕ) (values : List ℕ) (i : ℕ) where
   -- the test of one terminal, by its variable's number
-  joined-test : (j x : ℕ) (b : Bool) → j < i → x ≡ joinedNumber r j i → b ≡ assigned values x → b ≡ assigned values (X r j i)
-  joined-test j x b h e f = f ∙ ap (assigned values) (e ∙ joined-there r j i hr (omega arith) hi (λ z. omega arith))
+  joined-test : (j x : ℕ) (b : Bool) → x ≡ X (terminals r) j i → b ≡ assigned values x → b ≡ assigned values (X (terminals r) j i)
+  joined-test j x b e f = f ∙ ap (assigned values) e
 
-  pub label-found : (j x : ℕ) (b : Bool) → j < i → x ≡ joinedNumber r j i → b ≡ assigned values x → b ≡ true
-      → ((k : ℕ) → k < j → T (not (eqb k i || assigned values (X r k i)))) → j ≡ labelFor r (assigned values) i
+  pub label-found : (j x : ℕ) (b : Bool) → j < i → x ≡ X (terminals r) j i → b ≡ assigned values x → b ≡ true
+      → ((k : ℕ) → k < j → T (not (eqb k i || assigned values (X (terminals r) k i)))) → j ≡ labelFor r (assigned values) i
   unfolding labelFor
   label-found j x b h e f t g =
-      sym (lowest-is (λ j. eqb j i || assigned values (X r j i)) (i + 1) j (omega arith)
-      (or-r (eqb j i) (assigned values (X r j i)) (T-of (assigned values (X r j i)) (sym (joined-test j x b h e f) ∙ t))) g)
+      sym (lowest-is (λ j. eqb j i || assigned values (X (terminals r) j i)) (i + 1) j (omega arith)
+      (or-r (eqb j i) (assigned values (X (terminals r) j i)) (T-of (assigned values (X (terminals r) j i)) (sym (joined-test j x b e f) ∙ t))) g)
 
-  pub label-not : (j x : ℕ) (b : Bool) → j < i → x ≡ joinedNumber r j i → b ≡ assigned values x → b ≡ false → T (not (eqb j i || assigned values (X r j i)))
+  pub label-not : (j x : ℕ) (b : Bool) → j < i → x ≡ X (terminals r) j i → b ≡ assigned values x → b ≡ false → T (not (eqb j i || assigned values (X (terminals r) j i)))
   label-not j x b h e f t =
-      not-T (eqb j i || assigned values (X r j i)) (λ y. none (or-cases (eqb j i) (assigned values (X r j i)) y))
+      not-T (eqb j i || assigned values (X (terminals r) j i)) (λ y. none (or-cases (eqb j i) (assigned values (X (terminals r) j i)) y))
     where
-      none : T (eqb j i) ⊎ T (assigned values (X r j i)) → ⊥
+      none : T (eqb j i) ⊎ T (assigned values (X (terminals r) j i)) → ⊥
       none (inl y) = let z = eqb→eq j i y in omega arith
-      none (inr y) = subst T (sym (joined-test j x b h e f) ∙ t) y
+      none (inr y) = subst T (sym (joined-test j x b e f) ∙ t) y
 
-  pub label-own : (j : ℕ) → i ≤ j → j ≤ i → ((k : ℕ) → k < j → T (not (eqb k i || assigned values (X r k i)))) → j ≡ labelFor r (assigned values) i
+  pub label-own : (j : ℕ) → i ≤ j → j ≤ i → ((k : ℕ) → k < j → T (not (eqb k i || assigned values (X (terminals r) k i)))) → j ≡ labelFor r (assigned values) i
   unfolding labelFor
   label-own j h k g =
       let e : j ≡ i = omega arith in
-      e ∙ sym (lowest-is (λ j. eqb j i || assigned values (X r j i)) (i + 1) i (omega arith) (or-l (eqb i i) (assigned values (X r i i)) (eqb-refl i)) (λ k l. g k (omega arith)))
+      e ∙ sym (lowest-is (λ j. eqb j i || assigned values (X (terminals r) j i)) (i + 1) i (omega arith) (or-l (eqb i i) (assigned values (X (terminals r) i i)) (eqb-refl i)) (λ k l. g k (omega arith)))

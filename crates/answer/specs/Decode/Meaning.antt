@@ -1,10 +1,10 @@
 -- The decoded network is what the values describe: where the clauses of groups 1 and 2 hold, X is an equality of labels, L an equality
--- of literals, and the network has the form. First what a clause group says at each index of it. Assumes nothing.
+-- of literals, and the network has the form. Assumes nothing.
 use mathlib.Core.Path.{_≡_, sym, ap, ap₂, _∙_, subst}
-use mathlib.Core.Bool.{Bool, true, false, not, _||_}
-use mathlib.Core.List.{List, [], _∷_, _++_}
+use mathlib.Core.Bool.{Bool, not, _||_}
+use mathlib.Core.List.{List, [], _∷_}
 use mathlib.Core.Logic.{_⊎_, inl, inr, ⊎-elim}
-use Prim.Native.Nat.{ℕ, zero, suc, _+_, _-_, _*_, _≤_, _<_}
+use Prim.Native.Nat.{ℕ, _+_, _-_, _*_, _≤_, _<_}
 use native.Mathlib.Omega.{arith}
 use lib.Dec.{T, T-not, eqb, ltb, eqb→eq, eqb-refl, lt→ltb}
 use lib.Arith.{le→nltb}
@@ -13,65 +13,15 @@ use lib.ListN.{length, replicate}
 use Rattle.prelude.specs.Tests.{tests-eq, or-l, or-r, or-cases, eq→eqb, eq?, le?, cond-true, cond-false}
 use Rattle.prelude.specs.Lists.{tab}
 use Rattle.prelude.specs.Lists.Laws.{length-tab, getD-tab, first-before, first-holds}
-use Rattle.prelude.specs.Blocks.{each, for}
-use Rattle.cnf.specs.Cnf.{pos, neg, Clause, Formula, Assignment, literalHolds, clauseHolds, Sat}
+use Rattle.prelude.specs.Blocks.{for}
+use Rattle.cnf.specs.Cnf.{neg, Assignment, Sat}
+use Rattle.cnf.specs.Cnf.Parts.{for-out, some-out, imp2, no2}
 use Rattle.formula.specs.Formula.{terminals, pairNumber, X, L, triple, transitivity, choice, choices}
 use Rattle.network.specs.Networks.{Net, FormedAs, literalAt, labelAt}
-use Rattle.network.specs.Value.{listed}
+use Rattle.network.specs.Value.{terminalsMost, listed}
+use Rattle.request.specs.Numbers.{switchesMost}
 use Rattle.answer.specs.Decode.{lowest, literalFor, labelFor, decoded}
 use Rattle.answer.specs.Decode.Laws.{entry}
-
--- clauses of two formulas joined
-pub Sat-split : (α : Assignment) (f g : Formula) → Sat α (f ++ g) → Sat α f × Sat α g
-Sat-split α [] g h = (tt, h)
-Sat-split α (c ∷ f) g h = ((h .0, (Sat-split α f g (h .1)) .0), (Sat-split α f g (h .1)) .1)
-
--- formulas by an index: each of them holds
-pub each-sat : (α : Assignment) (n : ℕ) (f : ℕ → Formula) → Sat α (each n f) → (i : ℕ) → i < n → Sat α (f i)
-unfolding each
-each-sat α zero f h i l = absurd (omega arith)
-each-sat α (suc n) f h i l =
-    let two = Sat-split α (each n f) (f n) h in
-    ⊎-elim (λ (g : n ≤ i). subst (λ (k : ℕ). Sat α (f k)) (let z : n ≡ i = omega arith in z) (two .1))
-    (λ (g : i < n). each-sat α n f (two .0) i g)
-    (le? n i)
-
--- the same from a on
-pub for-out : (α : Assignment) (a n : ℕ) (f : ℕ → Formula) → Sat α (for a n f) → (i : ℕ) → a ≤ i → i < a + n → Sat α (f i)
-for-out α a n f h i l u =
-    subst (λ (k : ℕ). Sat α (f k)) (let z : a + (i - a) ≡ i = omega arith in z) (each-sat α n (λ j. f (a + j)) h (i - a) (omega arith))
-
--- a disjunction's second part taken apart
-or-second : (a b c : Bool) {D : Type 0} → T (a || b) → (T b → T c ⊎ D) → T (a || c) ⊎ D
-or-second true b c t f = inl tt
-or-second false b c t f = f t
-
--- where two clauses joined hold, one of them does
-pub clause-split : (α : Assignment) (c d : Clause) → T (clauseHolds α (c ++ d)) → T (clauseHolds α c) ⊎ T (clauseHolds α d)
-clause-split α [] d t = inr t
-clause-split α (l ∷ c) d t = or-second (literalHolds α l) (clauseHolds α (c ++ d)) (clauseHolds α c) t (λ x. clause-split α c d x)
-
--- a clause of variables by an index holds: one of them is true
-pub some-out : (α : Assignment) (n : ℕ) (g : ℕ → ℕ) → T (clauseHolds α (each n (λ i. pos (g i) ∷ []))) → (i : ℕ) × (i < n) × T (α (g i))
-unfolding each
-some-out α zero g t = absurd t
-some-out α (suc n) g t =
-    ⊎-elim (λ (x : T (clauseHolds α (each n (λ i. pos (g i) ∷ [])))). let w = some-out α n g x in (w .0, omega arith, w .2))
-    (λ (x : T (α (g n) || false)). ⊎-elim (λ (y : T (α (g n))). (n, omega arith, y)) (λ (y : ⊥). absurd y) (or-cases (α (g n)) false x))
-    (clause-split α (each n (λ i. pos (g i) ∷ [])) (pos (g n) ∷ []) t)
-
--- (−a −b c) as an implication
-pub imp2 : (a b c : Bool) → T (not a || (not b || (c || false))) → T a → T b → T c
-imp2 true true true h p q = tt
-imp2 true true false h p q = h
-imp2 true false c h p q = absurd q
-imp2 false b c h p q = absurd p
-
--- (−a −b): not both
-pub no2 : (a b : Bool) → T (not a || (not b || false)) → T a → T b → ⊥
-no2 true true h p q = h
-no2 true false h p q = q
-no2 false b h p q = p
 
 -- the order of two numbers
 abbrev Order : ℕ → ℕ → Type 0
@@ -91,33 +41,33 @@ lowest-found p c i h t =
     (le? (lowest p c) i)
 
 -- X(j,i) is X(i,j)
-pub X-sym : (r i j : ℕ) → X r i j ≡ X r j i
+pub X-sym : (N i j : ℕ) → X N i j ≡ X N j i
 unfolding X
-X-sym r i j = go (order i j)
+X-sym N i j = go (order i j)
   where
-    go : Order i j → X r i j ≡ X r j i
+    go : Order i j → X N i j ≡ X N j i
     go (inl h) =
-        cond-true (ltb i j) (pairNumber r i j) (pairNumber r j i) (lt→ltb i j h)
-        ∙ sym (cond-false (ltb j i) (pairNumber r j i) (pairNumber r i j) (le→nltb j i (omega arith)))
-    go (inr (inl e)) = ap (λ (k : ℕ). X r k j) e ∙ ap (X r j) (sym e)
+        cond-true (ltb i j) (pairNumber N i j) (pairNumber N j i) (lt→ltb i j h)
+        ∙ sym (cond-false (ltb j i) (pairNumber N j i) (pairNumber N i j) (le→nltb j i (omega arith)))
+    go (inr (inl e)) = ap (λ (k : ℕ). X N k j) e ∙ ap (X N j) (sym e)
     go (inr (inr h)) =
-        cond-false (ltb i j) (pairNumber r i j) (pairNumber r j i) (le→nltb i j (omega arith))
-        ∙ sym (cond-true (ltb j i) (pairNumber r j i) (pairNumber r i j) (lt→ltb j i h))
+        cond-false (ltb i j) (pairNumber N i j) (pairNumber N j i) (le→nltb i j (omega arith))
+        ∙ sym (cond-true (ltb j i) (pairNumber N j i) (pairNumber N i j) (lt→ltb j i h))
 
 -- the test that the label of j is found by: i is j, or joined to it
 abbrev pub meets : ℕ → Assignment → ℕ → ℕ → Bool
-meets r α i j = eqb i j || α (X r i j)
+meets r α i j = eqb i j || α (X (terminals r) i j)
 
 module _ (r : ℕ) (α : Assignment) where
   -- a label is at or below its terminal
   pub label-low : (i : ℕ) → labelFor r α i ≤ i
   unfolding labelFor
-  label-low i = (lowest-found (λ j. meets r α j i) (i + 1) i (omega arith) (or-l (eqb i i) (α (X r i i)) (eqb-refl i))) .1
+  label-low i = (lowest-found (λ j. meets r α j i) (i + 1) i (omega arith) (or-l (eqb i i) (α (X (terminals r) i i)) (eqb-refl i))) .1
 
   -- and meets it
   label-meets : (i : ℕ) → T (meets r α (labelFor r α i) i)
   unfolding labelFor
-  label-meets i = (lowest-found (λ j. meets r α j i) (i + 1) i (omega arith) (or-l (eqb i i) (α (X r i i)) (eqb-refl i))) .0
+  label-meets i = (lowest-found (λ j. meets r α j i) (i + 1) i (omega arith) (or-l (eqb i i) (α (X (terminals r) i i)) (eqb-refl i))) .0
 
   -- and at or below each terminal that meets it
   label-least : (i j : ℕ) → j ≤ i → T (meets r α j i) → labelFor r α i ≤ j
@@ -125,48 +75,48 @@ module _ (r : ℕ) (α : Assignment) where
   label-least i j h t = (lowest-found (λ j. meets r α j i) (i + 1) j (omega arith) t) .1
 
   -- X read the other way round
-  joined-back : (i j : ℕ) → T (α (X r i j)) → T (α (X r j i))
-  joined-back i j t = subst (λ (k : ℕ). T (α k)) (X-sym r i j) t
+  joined-back : (i j : ℕ) → T (α (X (terminals r) i j)) → T (α (X (terminals r) j i))
+  joined-back i j t = subst (λ (k : ℕ). T (α k)) (X-sym (terminals r) i j) t
 
   -- to meet is symmetric
   meets-back : (i j : ℕ) → T (meets r α i j) → T (meets r α j i)
   meets-back i j t =
-      ⊎-elim (λ (e : T (eqb i j)). or-l (eqb j i) (α (X r j i)) (eq→eqb j i (sym (eqb→eq i j e))))
-      (λ (x : T (α (X r i j))). or-r (eqb j i) (α (X r j i)) (joined-back i j x))
-      (or-cases (eqb i j) (α (X r i j)) t)
+      ⊎-elim (λ (e : T (eqb i j)). or-l (eqb j i) (α (X (terminals r) j i)) (eq→eqb j i (sym (eqb→eq i j e))))
+      (λ (x : T (α (X (terminals r) i j))). or-r (eqb j i) (α (X (terminals r) j i)) (joined-back i j x))
+      (or-cases (eqb i j) (α (X (terminals r) i j)) t)
 
 -- Group 1: to meet is an equivalence, so the labels are equal exactly where X is true
-module _ (r : ℕ) (α : Assignment) (sat : Sat α (transitivity r)) where
+module _ (r : ℕ) (α : Assignment) (sat : Sat α (transitivity (terminals r))) where
   -- the three clauses of i<j<k
-  three : (i j k : ℕ) → i < j → j < k → k < terminals r → Sat α (triple r i j k)
+  three : (i j k : ℕ) → i < j → j < k → k < terminals r → Sat α (triple (terminals r) i j k)
   unfolding transitivity
   three i j k a b c =
-      for-out α (j + 1) (terminals r - (j + 1)) (λ k. triple r i j k)
-      (for-out α (i + 1) (terminals r - (i + 1)) (λ j. for (j + 1) (terminals r - (j + 1)) (λ k. triple r i j k))
-      (for-out α 0 (terminals r) (λ i. for (i + 1) (terminals r - (i + 1)) (λ j. for (j + 1) (terminals r - (j + 1)) (λ k. triple r i j k))) sat i (omega arith) (omega arith))
+      for-out α (j + 1) (terminals r - (j + 1)) (λ k. triple (terminals r) i j k)
+      (for-out α (i + 1) (terminals r - (i + 1)) (λ j. for (j + 1) (terminals r - (j + 1)) (λ k. triple (terminals r) i j k))
+      (for-out α 0 (terminals r) (λ i. for (i + 1) (terminals r - (i + 1)) (λ j. for (j + 1) (terminals r - (j + 1)) (λ k. triple (terminals r) i j k))) sat i (omega arith) (omega arith))
       j (omega arith) (omega arith))
       k (omega arith) (omega arith)
 
   -- the first, second and third of them
-  through : (i j k : ℕ) → i < j → j < k → k < terminals r → T (α (X r i j)) → T (α (X r j k)) → T (α (X r i k))
-  through i j k a b c = imp2 (α (X r i j)) (α (X r j k)) (α (X r i k)) ((three i j k a b c) .0)
+  through : (i j k : ℕ) → i < j → j < k → k < terminals r → T (α (X (terminals r) i j)) → T (α (X (terminals r) j k)) → T (α (X (terminals r) i k))
+  through i j k a b c = imp2 (α (X (terminals r) i j)) (α (X (terminals r) j k)) (α (X (terminals r) i k)) ((three i j k a b c) .0)
 
-  above : (i j k : ℕ) → i < j → j < k → k < terminals r → T (α (X r i j)) → T (α (X r i k)) → T (α (X r j k))
-  above i j k a b c = imp2 (α (X r i j)) (α (X r i k)) (α (X r j k)) ((three i j k a b c) .1 .0)
+  above : (i j k : ℕ) → i < j → j < k → k < terminals r → T (α (X (terminals r) i j)) → T (α (X (terminals r) i k)) → T (α (X (terminals r) j k))
+  above i j k a b c = imp2 (α (X (terminals r) i j)) (α (X (terminals r) i k)) (α (X (terminals r) j k)) ((three i j k a b c) .1 .0)
 
-  below : (i j k : ℕ) → i < j → j < k → k < terminals r → T (α (X r i k)) → T (α (X r j k)) → T (α (X r i j))
-  below i j k a b c = imp2 (α (X r i k)) (α (X r j k)) (α (X r i j)) ((three i j k a b c) .1 .1 .0)
+  below : (i j k : ℕ) → i < j → j < k → k < terminals r → T (α (X (terminals r) i k)) → T (α (X (terminals r) j k)) → T (α (X (terminals r) i j))
+  below i j k a b c = imp2 (α (X (terminals r) i k)) (α (X (terminals r) j k)) (α (X (terminals r) i j)) ((three i j k a b c) .1 .1 .0)
 
   -- X is transitive, in each order of three terminals
-  joined-through : (i j k : ℕ) → i < terminals r → j < terminals r → k < terminals r → (i ≡ k → ⊥) → T (α (X r i j)) → T (α (X r j k))
-      → Order i j → Order j k → Order i k → T (α (X r i k))
-  joined-through i j k a b c d x y (inr (inl e)) o p = subst (λ (z : ℕ). T (α (X r z k))) (sym e) y
-  joined-through i j k a b c d x y (inl g) (inr (inl e)) p = subst (λ (z : ℕ). T (α (X r i z))) e x
+  joined-through : (i j k : ℕ) → i < terminals r → j < terminals r → k < terminals r → (i ≡ k → ⊥) → T (α (X (terminals r) i j)) → T (α (X (terminals r) j k))
+      → Order i j → Order j k → Order i k → T (α (X (terminals r) i k))
+  joined-through i j k a b c d x y (inr (inl e)) o p = subst (λ (z : ℕ). T (α (X (terminals r) z k))) (sym e) y
+  joined-through i j k a b c d x y (inl g) (inr (inl e)) p = subst (λ (z : ℕ). T (α (X (terminals r) i z))) e x
   joined-through i j k a b c d x y (inl g) (inl h) p = through i j k g h c x y
   joined-through i j k a b c d x y (inl g) (inr (inr h)) (inl l) = below i k j l h b x (joined-back r α j k y)
   joined-through i j k a b c d x y (inl g) (inr (inr h)) (inr (inl e)) = absurd (d e)
   joined-through i j k a b c d x y (inl g) (inr (inr h)) (inr (inr l)) = joined-back r α k i (below k i j l g b (joined-back r α j k y) x)
-  joined-through i j k a b c d x y (inr (inr g)) (inr (inl e)) p = subst (λ (z : ℕ). T (α (X r i z))) e x
+  joined-through i j k a b c d x y (inr (inr g)) (inr (inl e)) p = subst (λ (z : ℕ). T (α (X (terminals r) i z))) e x
   joined-through i j k a b c d x y (inr (inr g)) (inr (inr h)) p =
       joined-back r α k i (through k j i h g a (joined-back r α j k y) (joined-back r α i j x))
   joined-through i j k a b c d x y (inr (inr g)) (inl h) (inl l) = above j i k g l c (joined-back r α i j x) y
@@ -177,14 +127,14 @@ module _ (r : ℕ) (α : Assignment) (sat : Sat α (transitivity r)) where
   meets-through : (i j k : ℕ) → i < terminals r → j < terminals r → k < terminals r → T (meets r α i j) → T (meets r α j k) → T (meets r α i k)
   meets-through i j k a b c s t =
       ⊎-elim (λ (e : T (eqb i j)). subst (λ (z : ℕ). T (meets r α z k)) (sym (eqb→eq i j e)) t)
-      (λ (x : T (α (X r i j))).
+      (λ (x : T (α (X (terminals r) i j))).
       ⊎-elim (λ (e : T (eqb j k)). subst (λ (z : ℕ). T (meets r α i z)) (eqb→eq j k e) s)
-      (λ (y : T (α (X r j k))).
-      ⊎-elim (λ (e : i ≡ k). or-l (eqb i k) (α (X r i k)) (eq→eqb i k e))
-      (λ (d : i ≡ k → ⊥). or-r (eqb i k) (α (X r i k)) (joined-through i j k a b c d x y (order i j) (order j k) (order i k)))
+      (λ (y : T (α (X (terminals r) j k))).
+      ⊎-elim (λ (e : i ≡ k). or-l (eqb i k) (α (X (terminals r) i k)) (eq→eqb i k e))
+      (λ (d : i ≡ k → ⊥). or-r (eqb i k) (α (X (terminals r) i k)) (joined-through i j k a b c d x y (order i j) (order j k) (order i k)))
       (eq? i k))
-      (or-cases (eqb j k) (α (X r j k)) t))
-      (or-cases (eqb i j) (α (X r i j)) s)
+      (or-cases (eqb j k) (α (X (terminals r) j k)) t))
+      (or-cases (eqb i j) (α (X (terminals r) i j)) s)
 
   -- the labels of two that meet, one way
   label-at-most : (i j : ℕ) → i < terminals r → j < terminals r → T (meets r α i j) → labelFor r α j ≤ labelFor r α i
@@ -210,13 +160,13 @@ module _ (r : ℕ) (α : Assignment) (sat : Sat α (transitivity r)) where
       (subst (λ (k : ℕ). T (meets r α k j)) (sym e) (label-meets r α j))
 
   -- two terminals share a label exactly where X joins them
-  pub label-joined : (i j : ℕ) → i < terminals r → j < terminals r → (i ≡ j → ⊥) → α (X r i j) ≡ eqb (labelFor r α i) (labelFor r α j)
+  pub label-joined : (i j : ℕ) → i < terminals r → j < terminals r → (i ≡ j → ⊥) → α (X (terminals r) i j) ≡ eqb (labelFor r α i) (labelFor r α j)
   label-joined i j a b d =
-      tests-eq (α (X r i j)) (eqb (labelFor r α i) (labelFor r α j))
-      (λ t. eq→eqb (labelFor r α i) (labelFor r α j) (label-same i j a b (or-r (eqb i j) (α (X r i j)) t)))
+      tests-eq (α (X (terminals r) i j)) (eqb (labelFor r α i) (labelFor r α j))
+      (λ t. eq→eqb (labelFor r α i) (labelFor r α j) (label-same i j a b (or-r (eqb i j) (α (X (terminals r) i j)) t)))
       (λ t.
-      ⊎-elim (λ (e : T (eqb i j)). absurd (d (eqb→eq i j e))) (λ (x : T (α (X r i j))). x)
-      (or-cases (eqb i j) (α (X r i j)) (same-label i j a b (eqb→eq (labelFor r α i) (labelFor r α j) t))))
+      ⊎-elim (λ (e : T (eqb i j)). absurd (d (eqb→eq i j e))) (λ (x : T (α (X (terminals r) i j))). x)
+      (or-cases (eqb i j) (α (X (terminals r) i j)) (same-label i j a b (eqb→eq (labelFor r α i) (labelFor r α j) t))))
 
   -- a label is its own label
   pub label-own : (i : ℕ) → i < terminals r → labelFor r α (labelFor r α i) ≡ labelFor r α i
@@ -225,27 +175,27 @@ module _ (r : ℕ) (α : Assignment) (sat : Sat α (transitivity r)) where
       label-same (labelFor r α i) i (omega arith) h (label-meets r α i)
 
 -- Group 2: exactly one L of a switch is true
-module _ (n r : ℕ) (α : Assignment) (sat : Sat α (choices n r)) where
+module _ (n r : ℕ) (α : Assignment) (sat : Sat α (choices n (terminals r) r)) where
   -- the clauses of one switch
-  chosen : (s : ℕ) → s < r → Sat α (choice n r s)
+  chosen : (s : ℕ) → s < r → Sat α (choice n (terminals r) s)
   unfolding choices
-  chosen s h = for-out α 0 r (choice n r) sat s (omega arith) (omega arith)
+  chosen s h = for-out α 0 r (choice n (terminals r)) sat s (omega arith) (omega arith)
 
   -- the L of the literal is true
-  literal-some : (s : ℕ) → s < r → T (α (L n r s (literalFor n r α s))) × (literalFor n r α s < 2 * n)
+  literal-some : (s : ℕ) → s < r → T (α (L n (terminals r) s (literalFor n r α s))) × (literalFor n r α s < 2 * n)
   unfolding choice literalFor
   literal-some s h =
-      let w = some-out α (2 * n) (λ v. L n r s (0 + v)) ((chosen s h) .0) in
-      let f = lowest-found (λ v. α (L n r s v)) (2 * n) (0 + w .0) (omega arith) (w .2) in
+      let w = some-out α (2 * n) (λ v. L n (terminals r) s (0 + v)) ((chosen s h) .0) in
+      let f = lowest-found (λ v. α (L n (terminals r) s v)) (2 * n) (0 + w .0) (omega arith) (w .2) in
       (f .0, omega arith)
 
   -- no two L of a switch are
-  literal-two : (s v w : ℕ) → s < r → v < w → w < 2 * n → T (α (L n r s v)) → T (α (L n r s w)) → ⊥
+  literal-two : (s v w : ℕ) → s < r → v < w → w < 2 * n → T (α (L n (terminals r) s v)) → T (α (L n (terminals r) s w)) → ⊥
   unfolding choice
   literal-two s v w h a b =
-      no2 (α (L n r s v)) (α (L n r s w))
-      ((for-out α (v + 1) (2 * n - (v + 1)) (λ w. (neg (L n r s v) ∷ neg (L n r s w) ∷ []) ∷ [])
-      (for-out α 0 (2 * n) (λ v. for (v + 1) (2 * n - (v + 1)) (λ w. (neg (L n r s v) ∷ neg (L n r s w) ∷ []) ∷ [])) ((chosen s h) .1) v (omega arith) (omega arith))
+      no2 (α (L n (terminals r) s v)) (α (L n (terminals r) s w))
+      ((for-out α (v + 1) (2 * n - (v + 1)) (λ w. (neg (L n (terminals r) s v) ∷ neg (L n (terminals r) s w) ∷ []) ∷ [])
+      (for-out α 0 (2 * n) (λ v. for (v + 1) (2 * n - (v + 1)) (λ w. (neg (L n (terminals r) s v) ∷ neg (L n (terminals r) s w) ∷ []) ∷ [])) ((chosen s h) .1) v (omega arith) (omega arith))
       w (omega arith) (omega arith)) .0)
 
   -- a literal is below 2n
@@ -253,40 +203,43 @@ module _ (n r : ℕ) (α : Assignment) (sat : Sat α (choices n r)) where
   literal-low s h = (literal-some s h) .1
 
   -- a switch has the literal whose L is true
-  pub literal-is : (s v : ℕ) → s < r → v < 2 * n → α (L n r s v) ≡ eqb (literalFor n r α s) v
+  pub literal-is : (s v : ℕ) → s < r → v < 2 * n → α (L n (terminals r) s v) ≡ eqb (literalFor n r α s) v
   literal-is s v h l =
-      tests-eq (α (L n r s v)) (eqb (literalFor n r α s) v) (λ t. eq→eqb (literalFor n r α s) v (go t (order (literalFor n r α s) v)))
-      (λ t. subst (λ (k : ℕ). T (α (L n r s k))) (eqb→eq (literalFor n r α s) v t) ((literal-some s h) .0))
+      tests-eq (α (L n (terminals r) s v)) (eqb (literalFor n r α s) v) (λ t. eq→eqb (literalFor n r α s) v (go t (order (literalFor n r α s) v)))
+      (λ t. subst (λ (k : ℕ). T (α (L n (terminals r) s k))) (eqb→eq (literalFor n r α s) v t) ((literal-some s h) .0))
     where
-      go : T (α (L n r s v)) → Order (literalFor n r α s) v → literalFor n r α s ≡ v
+      go : T (α (L n (terminals r) s v)) → Order (literalFor n r α s) v → literalFor n r α s ≡ v
       go t (inl g) = absurd (literal-two s (literalFor n r α s) v h g l ((literal-some s h) .0) t)
       go t (inr (inl e)) = e
       go t (inr (inr g)) = absurd (literal-two s v (literalFor n r α s) h g ((literal-some s h) .1) t ((literal-some s h) .0))
 
 module _ (n r : ℕ) (α : Assignment) where
   -- the lists of the decoded network
-  pub decoded-listed : listed r (decoded n r α) ≡ record { literals = tab 0 r (literalFor n r α); labels = tab 0 (2 * r + 2) (labelFor r α) }
+  pub decoded-listed : listed r (decoded n r α)
+      ≡ record { literals = tab 0 r (literalFor n r α); labels = tab 0 (terminals r) (labelFor r α) }
   unfolding listed decoded
   decoded-listed =
       ap₂ (λ (x y : List ℕ). record { literals = x; labels = y })
-      (take-at (tab 0 r (literalFor n r α)) (replicate (7 - r) 0) r (length-tab 0 r (literalFor n r α)))
-      (take-at (tab 0 (2 * r + 2) (labelFor r α)) (replicate (16 - (2 * r + 2)) 0) (2 * r + 2) (length-tab 0 (2 * r + 2) (labelFor r α)))
+      (take-at (tab 0 r (literalFor n r α)) (replicate (switchesMost - r) 0) r (length-tab 0 r (literalFor n r α)))
+      (take-at (tab 0 (terminals r) (labelFor r α)) (replicate (terminalsMost - terminals r) 0) (terminals r)
+      (length-tab 0 (terminals r) (labelFor r α)))
 
   -- and their entries
   pub decoded-literal : (s : ℕ) → s < r → literalAt (listed r (decoded n r α)) s ≡ literalFor n r α s
   decoded-literal s h =
       ap (λ (w : Net). literalAt w s) decoded-listed ∙ getD-tab 0 r (literalFor n r α) s 0 h ∙ ap (literalFor n r α) (let z : 0 + s ≡ s = omega arith in z)
 
-  pub decoded-label : (i : ℕ) → i < 2 * r + 2 → labelAt (listed r (decoded n r α)) i ≡ labelFor r α i
+  pub decoded-label : (i : ℕ) → i < terminals r → labelAt (listed r (decoded n r α)) i ≡ labelFor r α i
   decoded-label i h =
-      ap (λ (w : Net). labelAt w i) decoded-listed ∙ getD-tab 0 (2 * r + 2) (labelFor r α) i 0 h ∙ ap (labelFor r α) (let z : 0 + i ≡ i = omega arith in z)
+      ap (λ (w : Net). labelAt w i) decoded-listed ∙ getD-tab 0 (terminals r) (labelFor r α) i 0 h
+      ∙ ap (labelFor r α) (let z : 0 + i ≡ i = omega arith in z)
 
 -- the decoded network has the form
-pub decoded-formed : (n r : ℕ) (α : Assignment) → Sat α (transitivity r) → Sat α (choices n r) → FormedAs n r (listed r (decoded n r α))
+pub decoded-formed : (n r : ℕ) (α : Assignment) → Sat α (transitivity (terminals r)) → Sat α (choices n (terminals r) r) → FormedAs n r (listed r (decoded n r α))
 decoded-formed n r α joins picks =
     record {
       literals-long = ap (λ (w : Net). length (w .literals)) (decoded-listed n r α) ∙ length-tab 0 r (literalFor n r α);
-      labels-long = ap (λ (w : Net). length (w .labels)) (decoded-listed n r α) ∙ length-tab 0 (2 * r + 2) (labelFor r α);
+      labels-long = ap (λ (w : Net). length (w .labels)) (decoded-listed n r α) ∙ length-tab 0 (terminals r) (labelFor r α);
       literals-low = λ s h. subst (λ (x : ℕ). x < 2 * n) (sym (decoded-literal n r α s h)) (literal-low n r α picks s h);
       labels-low = λ i h. subst (λ (x : ℕ). x ≤ i) (sym (decoded-label n r α i h)) (label-low r α i);
       labels-own = λ i h.

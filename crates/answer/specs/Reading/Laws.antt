@@ -7,20 +7,16 @@ use native.Mathlib.Omega.{arith}
 use borrow.Author.Tests.{eq-eqb, ne-eqb, le-leb, lt-leb}
 use lib.ListN.{length, replicate}
 use Rattle.numeral.specs.Number.{byteAt}
-use Rattle.answer.specs.Lines.{lineEnd, standsAt, solutionLine, formAt}
-use Rattle.request.specs.Numbers.{refusalOf}
+use Rattle.request.specs.Numbers.{inputsMost, switchesMost, refusalOf, Good}
 use Rattle.request.specs.declared.Request.{Request}
-use Rattle.network.specs.declared.Network.{Network}
-use Rattle.request.specs.Numbers.{Good}
 use Rattle.request.specs.Numbers.Laws.{refusal-good}
-use Rattle.formula.specs.Count.{sizesOf}
+use Rattle.network.specs.declared.Network.{Network}
+use Rattle.formula.specs.Count.{networkCount, valuesMost, sizesOf}
 use Rattle.formula.specs.Count.Laws.{sizes-refusal, sizes-taken}
-use Rattle.formula.specs.Formula.{P}
+use Rattle.formula.specs.Formula.{terminals, P}
 use Rattle.formula.specs.Formula.Bounds.{pairs-most, chosen-most}
-use Rattle.formula.specs.Named.{networkVariables}
-use Rattle.formula.specs.Named.Laws.{variables-there}
 use Rattle.formula.specs.declared.Sizes.{Sizes}
-use Rattle.formula.specs.Formula.{transitivity, choices}
+use Rattle.answer.specs.Lines.{lineEnd, standsAt, solutionLine, formAt}
 use Rattle.answer.specs.Values.{kept, namedFrom, complete, assigned, holding}
 use Rattle.answer.specs.Decode.{decoded}
 use Rattle.answer.specs.Reading.{line, gave, passed, valued, lineStep, linesFrom, refusedWith, ended, readingOf}
@@ -134,24 +130,21 @@ module _ (q : Request) (l : Lines) where
       unfolding ended
       ended-missing e = rw (eq-eqb (l .refusal) 0 zero, eq-eqb (l .phase) 2 two, all ∙ e)
 
-      module _ (e : b ≡ true) (count : ℕ) (h : Bool) (c : count ≡ length (transitivity (q .r)) + length (choices (q .n) (q .r))) (held : h ≡ holding q count (l .values)) where
-        hold : holding q (length (transitivity (q .r)) + length (choices (q .n) (q .r))) (l .values) ≡ h
-        hold = ap (λ (x : ℕ). holding q x (l .values)) (sym c) ∙ sym held
-
+      module _ (e : b ≡ true) (h : Bool) (held : h ≡ holding q (networkCount (q .n) (q .r)) (l .values)) where
         -- a clause of groups 1 and 2 fails
         pub ended-fails : h ≡ false → refusedWith 12 ≡ ended q l
         unfolding ended
-        ended-fails f = rw (eq-eqb (l .refusal) 0 zero, eq-eqb (l .phase) 2 two, all ∙ e, hold ∙ f)
+        ended-fails f = rw (eq-eqb (l .refusal) 0 zero, eq-eqb (l .phase) 2 two, all ∙ e, sym held ∙ f)
 
         -- the network
         pub ended-taken : h ≡ true → (w : Network) → w ≡ decoded (q .n) (q .r) (assigned (l .values)) → record { refusal = 0; network = w } ≡ ended q l
         unfolding ended
-        ended-taken f w g = rw (eq-eqb (l .refusal) 0 zero, eq-eqb (l .phase) 2 two, all ∙ e, hold ∙ f, g)
+        ended-taken f w g = rw (eq-eqb (l .refusal) 0 zero, eq-eqb (l .phase) 2 two, all ∙ e, sym held ∙ f, g)
 
--- a request's X and L variables are 176 at most
-pub kept-most : (n r : ℕ) → n ≤ 4 → r ≤ 7 → kept n r ≤ 176
+-- a request's X and L variables are few
+pub kept-most : (n r : ℕ) → n ≤ inputsMost → r ≤ switchesMost → kept n r ≤ valuesMost
 unfolding P
-kept-most n r hn hr = omega (arith, pairs-most r hr, chosen-most n r hn hr)
+kept-most n r hn hr = omega (arith, pairs-most (terminals r) (omega arith), chosen-most n r hn hr)
 
 module _ (q : Request) (t : List ℕ) (size : Sizes) (sized : size ≡ sizesOf q) where
   same : size .refusal ≡ refusalOf q
@@ -169,16 +162,14 @@ module _ (q : Request) (t : List ℕ) (size : Sizes) (sized : size ≡ sizesOf q
     pub reading-good : Good q
     reading-good = refusal-good q taken
 
-    module _ (keep : ℕ) (k : keep ≡ networkVariables (q .n) (q .r)) where
+    module _ (keep : ℕ) (k : keep ≡ kept (q .n) (q .r)) where
       -- what is kept of it
-      pub reading-kept : keep ≡ kept (q .n) (q .r)
-      reading-kept = k ∙ variables-there (q .n) (q .r) (reading-good .n-high) (reading-good .r-high)
-
-      pub reading-most : keep ≤ 176
-      reading-most = omega (arith, reading-kept, kept-most (q .n) (q .r) (reading-good .n-high) (reading-good .r-high))
+      pub reading-most : keep ≤ valuesMost
+      reading-most = omega (arith, k, kept-most (q .n) (q .r) (reading-good .n-high) (reading-good .r-high))
 
       -- a request that is read
-      pub reading-taken : (l : Lines) → l ≡ linesFrom (size .variables) keep t (length t) 0 0 (replicate 176 0) → ended q l ≡ readingOf q t
+      pub reading-taken : (l : Lines) → l ≡ linesFrom (size .variables) keep t (length t) 0 0 (replicate valuesMost 0)
+          → ended q l ≡ readingOf q t
       unfolding readingOf
       reading-taken l e =
-          rw (eq-eqb (refusalOf q) 0 taken, e, reading-kept, ap (λ (x : Sizes). x .variables) (sized ∙ sizes-taken q taken))
+          rw (eq-eqb (refusalOf q) 0 taken, e, k, ap (λ (x : Sizes). x .variables) (sized ∙ sizes-taken q taken))

@@ -21,8 +21,9 @@ use Rattle.network.specs.Networks.{FormedAs, literalAt, labelAt}
 use Rattle.network.specs.Check.{labelIn, fitting}
 use Rattle.network.specs.Value.{listed}
 use Rattle.network.specs.Check.Laws.{literals-below, labels-right, listed-literal, listed-label, form-right}
-use Rattle.formula.specs.Count.{variableCount}
-use Rattle.formula.specs.Formula.{X, L, transitivity, choices, formulaOf}
+use Rattle.formula.specs.Count.{networkCount, valuesMost, variableCount}
+use Rattle.formula.specs.Count.Laws.{network-length}
+use Rattle.formula.specs.Formula.{terminals, X, L, transitivity, choices, formulaOf}
 use Rattle.formula.specs.Number.{clauseOf}
 use Rattle.formula.specs.Number.Laws.{clause-good, in-nets, in-choices}
 use Rattle.answer.specs.Values.{kept, complete, assigned, holding}
@@ -34,7 +35,7 @@ use Rattle.answer.specs.declared.Lines.{Lines}
 
 -- what the lines of an answer give
 abbrev pub linesIn : Request → List ℕ → Lines
-linesIn q t = linesFrom (variableCount q) (kept (q .n) (q .r)) t (length t) 0 0 (replicate 176 0)
+linesIn q t = linesFrom (variableCount q) (kept (q .n) (q .r)) t (length t) 0 0 (replicate valuesMost 0)
 
 -- the values that they name
 abbrev pub valuesIn : Request → List ℕ → List ℕ
@@ -54,34 +55,34 @@ literalOf q w s = literalAt (listed (q .r) w) s
 
 -- two terminals are one, or X joins them
 abbrev pub Joined : Request → Assignment → ℕ → ℕ → Type 0
-Joined q α i j = (i ≡ j) ⊎ (α (X (q .r) i j) ≡ true)
+Joined q α i j = (i ≡ j) ⊎ (α (X (terminals (q .r)) i j) ≡ true)
 
 -- the network w of a request is the one that the assignment α describes
 pub record Describes (q : Request) (α : Assignment) (w : Network) : Type 0 where
   -- groups 1 and 2 hold
-  pub nets : Sat α (transitivity (q .r))
-  pub picks : Sat α (choices (q .n) (q .r))
+  pub nets : Sat α (transitivity (terminals (q .r)))
+  pub picks : Sat α (choices (q .n) (terminals (q .r)) (q .r))
   -- it is the network of the values, and has the form that the check of a network asks
   pub network : w ≡ decoded (q .n) (q .r) α
   pub size : w .r ≡ q .r
   pub form : FormedAs (q .n) (q .r) (listed (q .r) w)
   -- two terminals share a label exactly where they are one or X joins them
-  pub label-joins : (i j : ℕ) → i < 2 * q .r + 2 → j < 2 * q .r + 2 → labelOf q w i ≡ labelOf q w j → Joined q α i j
-  pub joins-label : (i j : ℕ) → i < 2 * q .r + 2 → j < 2 * q .r + 2 → Joined q α i j → labelOf q w i ≡ labelOf q w j
+  pub label-joins : (i j : ℕ) → i < terminals (q .r) → j < terminals (q .r) → labelOf q w i ≡ labelOf q w j → Joined q α i j
+  pub joins-label : (i j : ℕ) → i < terminals (q .r) → j < terminals (q .r) → Joined q α i j → labelOf q w i ≡ labelOf q w j
   -- a label is the lowest terminal of its net: one of that net, at or below each of it
-  pub label-there : (i : ℕ) → i < 2 * q .r + 2 → labelOf q w (labelOf q w i) ≡ labelOf q w i
-  pub label-lowest : (i j : ℕ) → i < 2 * q .r + 2 → j < 2 * q .r + 2 → labelOf q w i ≡ labelOf q w j → labelOf q w i ≤ j
+  pub label-there : (i : ℕ) → i < terminals (q .r) → labelOf q w (labelOf q w i) ≡ labelOf q w i
+  pub label-lowest : (i j : ℕ) → i < terminals (q .r) → j < terminals (q .r) → labelOf q w i ≡ labelOf q w j → labelOf q w i ≤ j
   -- the literal of a switch is below 2n, and the one whose L is true
   pub literal-low : (s : ℕ) → s < q .r → literalOf q w s < 2 * q .n
-  pub chosen-literal : (s v : ℕ) → s < q .r → v < 2 * q .n → α (L (q .n) (q .r) s v) ≡ true → literalOf q w s ≡ v
-  pub literal-chosen : (s v : ℕ) → s < q .r → v < 2 * q .n → literalOf q w s ≡ v → α (L (q .n) (q .r) s v) ≡ true
+  pub chosen-literal : (s v : ℕ) → s < q .r → v < 2 * q .n → α (L (q .n) (terminals (q .r)) s v) ≡ true → literalOf q w s ≡ v
+  pub literal-chosen : (s v : ℕ) → s < q .r → v < 2 * q .n → literalOf q w s ≡ v → α (L (q .n) (terminals (q .r)) s v) ≡ true
 
 -- numbers of which the test of equality is true are equal
 test-eq : (x y : ℕ) → eqb x y ≡ true → x ≡ y
 test-eq x y e = eqb→eq x y (T-of (eqb x y) e)
 
 -- ---- where groups 1 and 2 hold, the decoded network is described
-module _ (q : Request) (α : Assignment) (nets : Sat α (transitivity (q .r))) (picks : Sat α (choices (q .n) (q .r))) where
+module _ (q : Request) (α : Assignment) (nets : Sat α (transitivity (terminals (q .r)))) (picks : Sat α (choices (q .n) (terminals (q .r)) (q .r))) where
   -- that network
   abbrev made : Network
   made = decoded (q .n) (q .r) α
@@ -91,16 +92,16 @@ module _ (q : Request) (α : Assignment) (nets : Sat α (transitivity (q .r))) (
   form = decoded-formed (q .n) (q .r) α nets picks
 
   -- its labels are those of the assignment
-  label-is : (i : ℕ) → i < 2 * q .r + 2 → labelOf q made i ≡ labelFor (q .r) α i
+  label-is : (i : ℕ) → i < terminals (q .r) → labelOf q made i ≡ labelFor (q .r) α i
   label-is = decoded-label (q .n) (q .r) α
 
   -- X is the test that two are the same
-  pub same-test : (i j : ℕ) → i < 2 * q .r + 2 → j < 2 * q .r + 2 → (i ≡ j → ⊥)
-      → α (X (q .r) i j) ≡ eqb (labelOf q made i) (labelOf q made j)
+  pub same-test : (i j : ℕ) → i < terminals (q .r) → j < terminals (q .r) → (i ≡ j → ⊥)
+      → α (X (terminals (q .r)) i j) ≡ eqb (labelOf q made i) (labelOf q made j)
   same-test i j h l d = label-joined (q .r) α nets i j h l d ∙ rw (label-is i h, label-is j l)
 
   -- L that a literal is v
-  pub literal-test : (s v : ℕ) → s < q .r → v < 2 * q .n → α (L (q .n) (q .r) s v) ≡ eqb (literalOf q made s) v
+  pub literal-test : (s v : ℕ) → s < q .r → v < 2 * q .n → α (L (q .n) (terminals (q .r)) s v) ≡ eqb (literalOf q made s) v
   literal-test s v h l = literal-is (q .n) (q .r) α picks s v h l ∙ rw (decoded-literal (q .n) (q .r) α s h)
 
   -- each part by the laws of decoding
@@ -125,7 +126,7 @@ module _ (q : Request) (α : Assignment) (nets : Sat α (transitivity (q .r))) (
         literal-chosen = λ s v h l e. literal-test s v h l ∙ eq-eqb (literalOf q made s) v e;
       }
     where
-      join : (i j : ℕ) → i < 2 * q .r + 2 → j < 2 * q .r + 2 → Joined q α i j → (i ≡ j) ⊎ (i ≡ j → ⊥)
+      join : (i j : ℕ) → i < terminals (q .r) → j < terminals (q .r) → Joined q α i j → (i ≡ j) ⊎ (i ≡ j → ⊥)
           → labelOf q made i ≡ labelOf q made j
       join i j h l w (inl e) = ap (labelOf q made) e
       join i j h l (inl e) (inr d) = absurd (d e)
@@ -138,10 +139,10 @@ described-fits q α w d =
     true (literals-below (q .n) (q .r) (labelIn (w .literals)) (λ s h. rw (listed-literal (q .r) w s h) (d .literal-low s h))) refl
     true (labels-right (q .r) (labelIn (w .labels)) (λ i h. (low i h, own i h))) refl
   where
-    low : (i : ℕ) → i < 2 * q .r + 2 → labelIn (w .labels) i ≤ i
+    low : (i : ℕ) → i < terminals (q .r) → labelIn (w .labels) i ≤ i
     low i h = rw (listed-label (q .r) w i h) (d .form .labels-low i h)
 
-    own : (i : ℕ) → i < 2 * q .r + 2 → labelIn (w .labels) (labelIn (w .labels) i) ≡ labelIn (w .labels) i
+    own : (i : ℕ) → i < terminals (q .r) → labelIn (w .labels) (labelIn (w .labels) i) ≡ labelIn (w .labels) i
     own i h =
         let below = low i h in
         listed-label (q .r) w (labelIn (w .labels) i) (omega arith) ∙ ap (labelOf q w) (listed-label (q .r) w i h)
@@ -149,29 +150,30 @@ described-fits q α w d =
 
 -- ---- groups 1 and 2 are the first clauses of a request
 module _ (q : Request) (values : List ℕ) (good : refusalOf q ≡ 0)
-    (held : holding q (length (transitivity (q .r)) + length (choices (q .n) (q .r))) values ≡ true) where
+    (held : holding q (networkCount (q .n) (q .r)) values ≡ true) where
   -- a clause of the request holds of the values
   abbrev Holds : Clause → Type 0
   Holds c = T (clauseHolds (assigned values) c)
 
   -- each of the first does
-  clause-holds : (k : ℕ) → k < length (transitivity (q .r)) + length (choices (q .n) (q .r)) → Holds (getD (formulaOf q) k [])
+  clause-holds : (k : ℕ) → k < networkCount (q .n) (q .r) → Holds (getD (formulaOf q) k [])
   unfolding holding
   clause-holds k h =
       subst Holds (clause-good q k (refusal-good q good))
-      (all-out 0 (length (transitivity (q .r)) + length (choices (q .n) (q .r))) (λ k. clauseHolds (assigned values) (clauseOf q k))
+      (all-out 0 (networkCount (q .n) (q .r)) (λ k. clauseHolds (assigned values) (clauseOf q k))
       (T-of _ held) k (omega arith) (omega arith))
 
   -- those of group 1
-  nets-hold : Sat (assigned values) (transitivity (q .r))
-  nets-hold = sat-all (assigned values) (transitivity (q .r)) (λ k h. subst Holds (in-nets q k h) (clause-holds k (omega arith)))
+  nets-hold : Sat (assigned values) (transitivity (terminals (q .r)))
+  nets-hold = sat-all (assigned values) (transitivity (terminals (q .r))) (λ k h.
+      subst Holds (in-nets q k h) (clause-holds k (omega (arith, network-length (q .n) (q .r)))))
 
   -- and of group 2
-  picks-hold : Sat (assigned values) (choices (q .n) (q .r))
+  picks-hold : Sat (assigned values) (choices (q .n) (terminals (q .r)) (q .r))
   picks-hold =
-      sat-all (assigned values) (choices (q .n) (q .r)) (λ k h.
-      let i : ℕ = length (transitivity (q .r)) + k in
-      subst Holds (in-choices q i k refl h) (clause-holds i (omega arith)))
+      sat-all (assigned values) (choices (q .n) (terminals (q .r)) (q .r)) (λ k h.
+      let i : ℕ = length (transitivity (terminals (q .r))) + k in
+      subst Holds (in-choices q i k refl h) (clause-holds i (omega (arith, network-length (q .n) (q .r)))))
 
 -- ---- an answer that is taken
 -- its request is
@@ -201,12 +203,12 @@ false-zero x e z = subst T (sym (eq-eqb x 0 z) ∙ e) tt
 
 -- the same of what the lines give
 ended-zero : (q : Request) (l : Lines) → ended q l .refusal ≡ 0
-    → (holding q (length (transitivity (q .r)) + length (choices (q .n) (q .r))) (l .values) ≡ true)
+    → (holding q (networkCount (q .n) (q .r)) (l .values) ≡ true)
     × (ended q l .network ≡ decoded (q .n) (q .r) (assigned (l .values)))
 unfolding ended
 ended-zero q l e =
     ended-ways (eqb (l .refusal) 0) (eqb (l .phase) 2) (complete (kept (q .n) (q .r)) (l .values))
-    (holding q (length (transitivity (q .r)) + length (choices (q .n) (q .r))) (l .values)) (l .refusal)
+    (holding q (networkCount (q .n) (q .r)) (l .values)) (l .refusal)
     (decoded (q .n) (q .r) (assigned (l .values))) (false-zero (l .refusal)) e
 
 -- a request that is taken is read by its lines

@@ -9,8 +9,8 @@ use lib.Dec.{T, eqb}
 use lib.ListN.{length, getD, set}
 use borrow.Author.Tests.{le-leb, lt-leb, eq-eqb, ne-eqb, lt-ltb, le-ltb}
 use Rattle.prelude.specs.Tests.{T-eq, T-of, not-true-false, or-r, neqb→ne, ne→neqb}
-use Rattle.prelude.specs.Lists.{allFrom, Each}
-use Rattle.prelude.specs.Lists.Laws.{all-in, all-out, each-out}
+use Rattle.prelude.specs.Lists.{allFrom}
+use Rattle.prelude.specs.Lists.Laws.{all-in, all-out}
 use Rattle.cnf.specs.Cnf.{Assignment, Clause, pos, literalHolds, clauseHolds}
 use Rattle.cnf.specs.declared.Literal.{Literal}
 use Rattle.formula.specs.Clause.{run}
@@ -186,12 +186,6 @@ module _ (α : Assignment) where
       sym (holds-none (run first count) (pos 0) (λ i l.
       let k : i < count = omega (arith, run-length first count) in
       ap (literalHolds α) (run-at first count i (pos 0) k) ∙ h i k))
-
--- the variables of a run
-pub run-low : (first count i : ℕ) → Each (λ l. l .variable ≤ 10000) (run first count) → i < count → first + i ≤ 10000
-run-low first count i h l =
-    subst (λ (x : Literal). x .variable ≤ 10000) (run-at first count i (pos 0) l)
-    (each-out (λ l. l .variable ≤ 10000) (run first count) (pos 0) h i (omega (arith, run-length first count)))
 
 -- ---- the clauses of a request
 module _ (q : Request) (count : ℕ) (values : List ℕ) where

@@ -1,19 +1,21 @@
 -- Laws of a run of positive literals, and of the form of a clause. Assumes nothing.
 use mathlib.Core.Path.{_≡_, refl, sym, ap, _∙_, subst}
 use mathlib.Core.List.{List, [], _∷_, _++_}
-use Prim.Native.Nat.{ℕ, zero, suc, _+_, _<_}
+use Prim.Native.Nat.{ℕ, zero, suc, _+_, _≤_, _<_}
 use native.Mathlib.Nat.{zero-add, add-zero}
 use native.Mathlib.Omega.{arith}
 use lib.Dec.{T}
 use lib.ListN.{length, getD}
 use Rattle.prelude.specs.Tests.{cond-true}
+use Rattle.prelude.specs.Lists.Laws.{each-out}
 use Rattle.prelude.specs.Blocks.{each}
 use Rattle.prelude.specs.Blocks.Laws.{each-more, singles-length, singles-at}
 use Rattle.cnf.specs.Cnf.{pos, neg}
 use Rattle.cnf.specs.declared.Literal.{Literal}
 use Rattle.formula.specs.declared.Clause.{Clause}
 use Rattle.formula.specs.declared.Clause.the-variants.{Run, One, Two, Three}
-use Rattle.formula.specs.Clause.{run, literalsOf, few, packed, Packed}
+use Rattle.formula.specs.Clause.{run, Low, literalsOf, few, packed, Packed}
+use Rattle.formula.specs.Count.{variablesMost}
 
 -- no variables
 pub run-none : (first : ℕ) → run first 0 ≡ []
@@ -40,6 +42,12 @@ run-length first count = singles-length count (λ v. pos (first + (0 + v)))
 pub run-at : (first count i : ℕ) (d : Literal) → i < count → getD (run first count) i d ≡ pos (first + i)
 unfolding run
 run-at first count i d h = singles-at count i (λ v. pos (first + (0 + v))) d h ∙ ap (λ (x : ℕ). pos (first + x)) (zero-add i)
+
+-- its variables are those from the first on
+pub low-at : (first count i : ℕ) → Low (run first count) → i < count → first + i ≤ variablesMost
+low-at first count i h l =
+    subst (λ (x : Literal). x .variable ≤ variablesMost) (run-at first count i (pos 0) l)
+    (each-out (λ (x : Literal). x .variable ≤ variablesMost) (run first count) (pos 0) h i (omega (arith, run-length first count)))
 
 -- a literal that is negative
 pub negative-is : {x : Literal} {v : ℕ} → x ≡ neg v → T (x .negative)
@@ -69,7 +77,3 @@ form-of {x} h e = (h .0 ∙ e, packed-is x (h .1) ∙ ap packed (h .0 ∙ e))
 -- what the empty clause is
 pub form-none : {c : List Literal} → [] ≡ c → (literalsOf (Run 0 0) ≡ c) × (Run 0 0 ≡ packed c)
 form-none e = form-of (run-none 0, λ _. refl) e
-
--- what a clause is, by another name of its literals
-pub form-as : {x : Clause} {c d : List Literal} → (literalsOf x ≡ c) × (x ≡ packed c) → c ≡ d → (literalsOf x ≡ d) × (x ≡ packed d)
-form-as h e = (h .0 ∙ e, h .1 ∙ ap packed e)

@@ -3,8 +3,8 @@ use mathlib.Core.Path.{_≡_, refl, sym, ap, ap₂, _∙_, subst}
 use mathlib.Core.Bool.{Bool, true, false, not, cond}
 use mathlib.Core.List.{List, [], _∷_, _++_}
 use mathlib.Core.Logic.{_⊎_, inl, inr, ⊎-elim, _≢_}
-use Prim.Native.Nat.{ℕ, zero, suc, _+_, _-_, _*_, _/_, _%_, _^_, _≤_, _<_}
-use native.Mathlib.Nat.{mul-assoc, mul-comm, mul-one, zero-mul, add-mul, one-mul, mul-le-mul}
+use Prim.Native.Nat.{ℕ, zero, suc, _+_, _-_, _*_, _/_, _%_, _≤_, _<_}
+use native.Mathlib.Nat.{mul-assoc, mul-comm, mul-one, zero-mul, add-mul, one-mul}
 use native.Mathlib.Omega.{arith}
 use lib.Dec.{eqb}
 use lib.ListN.{length, getD, length-append, List·getD-append}
@@ -19,7 +19,7 @@ use Rattle.formula.specs.Clause.{run}
 use Rattle.formula.specs.Count.{onRowCount, onRowLiterals}
 use Rattle.formula.specs.Values.{countBelow, NthIs, hasValue}
 use Rattle.formula.specs.Values.Laws.{half-count, chosen-length, chosen-at}
-use Rattle.formula.specs.Formula.{X, L, W, Z, someStep, closedStep, firstStep, linkStep, lastStep, onRow}
+use Rattle.formula.specs.Formula.{terminals, X, L, W, Z, someStep, closedStep, firstStep, linkStep, lastStep, onRow}
 
 -- entries except those at which a test holds
 module _ {A : Type 0} (q : ℕ → Bool) (x : ℕ → A) where
@@ -141,9 +141,9 @@ some-at r m B i l =
 
 -- no literal that is 0 on row k
 abbrev pub closedClause : ℕ → ℕ → ℕ → ℕ → ℕ → ℕ → Clause
-closedClause n r B t e v = neg (W r B t e) ∷ neg (L n r (switchOf e) v) ∷ []
+closedClause n r B t e v = neg (W r B t e) ∷ neg (L n (terminals r) (switchOf e) v) ∷ []
 
-module _ (n r m B k : ℕ) (low : n ≤ 4) (row : k < 2 ^ n) where
+module _ (n r m B k : ℕ) where
   -- the clauses of one step and one end
   abbrev closedEnd : ℕ → ℕ → Formula
   closedEnd t e = for 0 (2 * n) (λ v. cond (literalOn n k v) [] (closedClause n r B t e v ∷ []))
@@ -153,7 +153,8 @@ module _ (n r m B k : ℕ) (low : n ≤ 4) (row : k < 2 ^ n) where
   zero-start t e = each-same (2 * n) _ _ (λ i l. let z : 0 + i ≡ i = omega arith in ap (unless (literalOn n k) (closedClause n r B t e)) z)
 
   closed-end-length : (t e : ℕ) → length (closedEnd t e) ≡ n
-  closed-end-length t e = ap length (zero-start t e) ∙ unless-length (literalOn n k) (closedClause n r B t e) (2 * n) ∙ half-count n k false low row
+  closed-end-length t e =
+      ap length (zero-start t e) ∙ unless-length (literalOn n k) (closedClause n r B t e) (2 * n) ∙ half-count n k false
 
   closed-step-length : (t : ℕ) → length (for 1 (2 * r) (closedEnd t)) ≡ 2 * r * n
   closed-step-length t = each-length (2 * r) n _ (λ i l. closed-end-length t (1 + i))
@@ -168,7 +169,7 @@ module _ (n r m B k : ℕ) (low : n ≤ 4) (row : k < 2 ^ n) where
   closed-literals =
       flatten-length m (2 * r * (n * 2)) _ (λ t a. flatten-length (2 * r) (n * 2) _ (λ e b.
       ap (λ (F : Formula). length (flatten F)) (zero-start (1 + t) (1 + e)) ∙ unless-literals (literalOn n k) (closedClause n r B (1 + t) (1 + e)) 2 (2 * n) (λ v. refl)
-      ∙ ap (λ (x : ℕ). x * 2) (half-count n k false low row)))
+      ∙ ap (λ (x : ℕ). x * 2) (half-count n k false)))
       ∙ ap (λ (x : ℕ). m * x) (sym (mul-assoc (2 * r) n 2)) ∙ sym (mul-assoc m (2 * r * n) 2) ∙ mul-comm (m * (2 * r * n)) 2
 
   pub closed-at : (j v : ℕ) → j < m * (2 * r * n) → NthIs (hasValue n k false) (2 * n) (j % (2 * r * n) % n) v
@@ -188,7 +189,7 @@ module _ (n r m B k : ℕ) (low : n ≤ 4) (row : k < 2 ^ n) where
 
 -- the first step starts on the source's net
 abbrev pub firstClause : ℕ → ℕ → ℕ → Clause
-firstClause r B e = neg (W r B 1 e) ∷ pos (X r source e) ∷ []
+firstClause r B e = neg (W r B 1 e) ∷ pos (X (terminals r) source e) ∷ []
 
 -- the stop is one end more
 first-is : (r B : ℕ) → firstStep r B ≡ for 1 (2 * r + 1) (λ e. firstClause r B e ∷ [])
@@ -211,7 +212,7 @@ first-at r B j l =
 
 -- a step follows the one before on one net; g is an end, or 2r + 1 for the stop
 abbrev pub linkClause : ℕ → ℕ → ℕ → ℕ → ℕ → Clause
-linkClause r B t e g = neg (W r B t e) ∷ neg (W r B (t + 1) g) ∷ pos (X r (other e) g) ∷ []
+linkClause r B t e g = neg (W r B t e) ∷ neg (W r B (t + 1) g) ∷ pos (X (terminals r) (other e) g) ∷ []
 
 module _ (r m B : ℕ) where
   -- the clauses of one step and one end
@@ -281,7 +282,7 @@ module _ (r m B : ℕ) where
 
 -- the last step ends on the sink's net
 abbrev pub lastClause : ℕ → ℕ → ℕ → ℕ → Clause
-lastClause r m B e = neg (W r B m e) ∷ pos (X r (other e) (sink r)) ∷ []
+lastClause r m B e = neg (W r B m e) ∷ pos (X (terminals r) (other e) (sink r)) ∷ []
 
 -- how many clauses, how many literals, and which clause stands at a number
 pub last-length : (r m B : ℕ) → length (lastStep r m B) ≡ 2 * r
@@ -319,7 +320,7 @@ literals-some n r m h = cond-false (eqb m 0) _ _ (ne→neqb m 0 (omega arith))
 
 module _ (n r m B k : ℕ) where
   -- the row where M is 0, and where it is not
-  row-none : m ≡ 0 → onRow n r m B (literalOn n k) ≡ (pos (X r source (sink r)) ∷ []) ∷ []
+  row-none : m ≡ 0 → onRow n r m B (literalOn n k) ≡ (pos (X (terminals r) source (sink r)) ∷ []) ∷ []
   unfolding onRow
   row-none e = cond-true (eqb m 0) _ _ (eq→eqb m 0 e)
 
@@ -330,13 +331,13 @@ module _ (n r m B k : ℕ) where
   row-some h = cond-false (eqb m 0) _ _ (ne→neqb m 0 (omega arith))
 
   -- how many clauses
-  pub on-row-length : n ≤ 4 → k < 2 ^ n → length (onRow n r m B (literalOn n k)) ≡ onRowCount n r m
-  on-row-length low row =
+  pub on-row-length : length (onRow n r m B (literalOn n k)) ≡ onRowCount n r m
+  on-row-length =
       ⊎-elim
       (λ (h : m ≤ 0). let e : m ≡ 0 = omega arith in ap length (row-none e) ∙ sym (clauses-none n r m e))
       (λ (h : 0 < m).
       let a = some-length r m B in
-      let b = closed-length n r m B k low row in
+      let b = closed-length n r m B k in
       let c = first-length r B in
       let d = link-length r m B in
       let e = last-length r m B in
@@ -346,15 +347,15 @@ module _ (n r m B k : ℕ) where
       (le? m 0)
 
   -- how many literals
-  pub on-row-literals : n ≤ 4 → k < 2 ^ n → length (flatten (onRow n r m B (literalOn n k))) ≡ onRowLiterals n r m
-  on-row-literals low row =
+  pub on-row-literals : length (flatten (onRow n r m B (literalOn n k))) ≡ onRowLiterals n r m
+  on-row-literals =
       ⊎-elim
       (λ (h : m ≤ 0).
       let e : m ≡ 0 = omega arith in
-      ap (λ (F : Formula). length (flatten F)) (row-none e) ∙ ap length (flatten-one (pos (X r source (sink r)) ∷ [])) ∙ sym (literals-none n r m e))
+      ap (λ (F : Formula). length (flatten F)) (row-none e) ∙ ap length (flatten-one (pos (X (terminals r) source (sink r)) ∷ [])) ∙ sym (literals-none n r m e))
       (λ (h : 0 < m).
       let a = some-literals r m B in
-      let b = closed-literals n r m B k low row in
+      let b = closed-literals n r m B k in
       let c = first-literals r B in
       let d = link-literals r m B in
       let e = last-literals r m B in
@@ -365,13 +366,13 @@ module _ (n r m B k : ℕ) where
       (le? m 0)
 
   -- the one clause where M is 0
-  pub row-none-at : (j : ℕ) → m ≡ 0 → j < onRowCount n r m → getD (onRow n r m B (literalOn n k)) j [] ≡ pos (X r source (sink r)) ∷ []
+  pub row-none-at : (j : ℕ) → m ≡ 0 → j < onRowCount n r m → getD (onRow n r m B (literalOn n k)) j [] ≡ pos (X (terminals r) source (sink r)) ∷ []
   row-none-at j e l =
       let c = clauses-none n r m e in
       let z : j ≡ 0 = omega arith in
       ap₂ (λ (F : Formula) (i : ℕ). getD F i []) (row-none e) z
 
-  module _ (up : 1 ≤ m) (low : n ≤ 4) (row : k < 2 ^ n) where
+  module _ (up : 1 ≤ m) where
     -- the row past its first part, its first two, its first three
     past-some : (j : ℕ) → m ≤ j
         → getD (onRow n r m B (literalOn n k)) j []
@@ -384,7 +385,7 @@ module _ (n r m B k : ℕ) where
     past-closed : (j : ℕ) → m ≤ j → m * (2 * r * n) ≤ j - m
         → getD (onRow n r m B (literalOn n k)) j [] ≡ getD (firstStep r B ++ (linkStep r m B ++ lastStep r m B)) (j - m - m * (2 * r * n)) []
     past-closed j l l2 =
-        let e = closed-length n r m B k low row in
+        let e = closed-length n r m B k in
         past-some j l ∙ getD-right (closedStep n r m B (literalOn n k)) _ (j - m) [] (omega arith)
         ∙ ap (λ (i : ℕ). getD (firstStep r B ++ (linkStep r m B ++ lastStep r m B)) (j - m - i) []) e
 
@@ -404,7 +405,7 @@ module _ (n r m B k : ℕ) where
     pub row-closed-at : (j : ℕ) → m ≤ j → j - m < m * (2 * r * n)
         → getD (onRow n r m B (literalOn n k)) j [] ≡ getD (closedStep n r m B (literalOn n k)) (j - m) []
     row-closed-at j l h =
-        let e = closed-length n r m B k low row in
+        let e = closed-length n r m B k in
         past-some j l ∙ List·getD-append (closedStep n r m B (literalOn n k)) _ [] (j - m) (omega arith)
 
     pub row-first-at : (j : ℕ) → m ≤ j → m * (2 * r * n) ≤ j - m → j - m - m * (2 * r * n) < 2 * r + 1
@@ -428,20 +429,3 @@ module _ (n r m B k : ℕ) where
         let e = link-length r m B in
         past-first j l l2 l3 ∙ getD-right (linkStep r m B) _ (j - m - m * (2 * r * n) - (2 * r + 1)) [] (omega arith)
         ∙ ap (λ (i : ℕ). getD (lastStep r m B) (j - m - m * (2 * r * n) - (2 * r + 1) - i) []) e
-
--- bounds on the products that these counts are made of
-pub ends-most : (n r : ℕ) → n ≤ 4 → r ≤ 7 → 2 * r * n ≤ 56
-ends-most n r h k = mul-le-mul {n₁ = 2 * r} {m₁ = n} {n₂ = 14} {m₂ = 4} (omega arith) h
-
-pub square-most : (r : ℕ) → r ≤ 7 → 2 * r * (2 * r) ≤ 196
-square-most r h = mul-le-mul {n₁ = 2 * r} {m₁ = 2 * r} {n₂ = 14} {m₂ = 14} (omega arith) (omega arith)
-
-pub row-most : (n r m : ℕ) → (n ≤ 4) × (r ≤ 7) × (m ≤ 7)
-    → (2 * r * n ≤ 56) × (2 * r * (2 * r) ≤ 196) × (m * (2 * r + 1) ≤ 105) × (m * (2 * r * n) ≤ 392) × ((m - 1) * (2 * r * (2 * r)) ≤ 1176)
-row-most n r m (h, k, l) = (
-  ends-most n r h k,
-  square-most r k,
-  mul-le-mul {n₁ = m} {m₁ = 2 * r + 1} {n₂ = 7} {m₂ = 15} l (omega arith),
-  mul-le-mul {n₁ = m} {m₁ = 2 * r * n} {n₂ = 7} {m₂ = 56} l (ends-most n r h k),
-  mul-le-mul {n₁ = m - 1} {m₁ = 2 * r * (2 * r)} {n₂ = 6} {m₂ = 196} (omega arith) (square-most r k),
-)

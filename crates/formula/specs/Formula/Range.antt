@@ -1,14 +1,13 @@
--- Every variable of a request's clauses is from 1 to V, and V is at most 1856. Assumes nothing.
+-- Every variable of a request's clauses is from 1 to V, and V is small. Assumes nothing.
 use mathlib.Core.Path.{sym, subst}
 use mathlib.Core.Bool.{Bool, true, false, cond}
 use mathlib.Core.List.{List, [], _∷_}
 use mathlib.Core.Logic.{⊎-elim, _≢_}
-use Prim.Native.Nat.{ℕ, _+_, _-_, _*_, _/_, _^_, _≤_, _<_}
+use Prim.Native.Nat.{ℕ, _+_, _-_, _*_, _^_, _≤_, _<_}
 use native.Mathlib.Nat.{add-mul, mul-add, mul-le-mul, le-refl}
 use native.Mathlib.Omega.{arith}
-use lib.Dec.{eqb, leb, leb→le}
+use lib.Dec.{eqb}
 use Rattle.prelude.specs.Tests.{neqb→ne, le?}
-use Rattle.prelude.specs.Finite.{below, below-at}
 use Rattle.prelude.specs.Lists.{Each}
 use Rattle.prelude.specs.Lists.Laws.{each-join, each-cond}
 use Rattle.prelude.specs.Blocks.{for}
@@ -20,11 +19,12 @@ use Rattle.request.specs.Numbers.{Good}
 use Rattle.request.specs.Numbers.Laws.{rows-high}
 use Rattle.request.specs.declared.Request.{Request}
 use Rattle.network.specs.Networks.{source, sink, switchOf, other}
-use Rattle.formula.specs.Formula.{terminals, pairNumber, X, P, L, W, S, transitivity, choice, choices, someStep, closedStep, firstStep, linkStep, lastStep, onRow, netSides, switchSides, offRow, rowVariables, rowClauses, rowsFrom, formula, formulaOf}
+use Rattle.formula.specs.Formula.{terminals, pairNumber, X, P, L, W, S, transitivity, choice, choices, someStep, closedStep, firstStep, linkStep, lastStep, onRow, netSides, switchSides, offRow, rowVariables, rowClauses, rowsFrom, formula, formulaOf, networkVariables}
 use Rattle.formula.specs.Formula.Bounds.{pairs-most, chosen-most, steps-most}
-use Rattle.formula.specs.Formula.Laws.{joined-low, joined-high}
+use Rattle.formula.specs.Formula.Laws.{joined-low, joined-high, pair-number, pairs-count}
+use Rattle.formula.specs.Pairs.Laws.{pairs-grow}
 use Rattle.formula.specs.Formula.Rows.{variablesIn}
-use Rattle.formula.specs.Count.{split, variablesBefore, variableCount}
+use Rattle.formula.specs.Count.{variablesMost, split, variablesBefore, variableCount}
 use Rattle.formula.specs.Count.Laws.{on-most, weighted-most, variables-below}
 
 -- a variable from 1 to top
@@ -35,32 +35,25 @@ In top x = (1 ≤ x) × (x ≤ top)
 abbrev pub ClauseIn : ℕ → Clause → Type 0
 ClauseIn top c = Each (λ (l : Literal). In top (l .variable)) c
 
--- X(i,j), i<j, is at most P: one computation over r and i, with the highest j
-pair-high : (r i : ℕ) → r ≤ 7 → i < terminals r → i * (2 * terminals r - i - 1) / 2 + (terminals r - 1 - i) ≤ P r
-unfolding P
-pair-high r i h l =
-    leb→le (i * (2 * terminals r - i - 1) / 2 + (terminals r - 1 - i)) (P r)
-    (below-at (terminals r) (λ i. leb (i * (2 * terminals r - i - 1) / 2 + (terminals r - 1 - i)) (P r))
-    (below-at 8 (λ r. below (terminals r) (λ i. leb (i * (2 * terminals r - i - 1) / 2 + (terminals r - 1 - i)) (P r))) tt r (omega arith)) i l)
-
-pair-in : (r i j : ℕ) → r ≤ 7 → i < j → j < terminals r → In (P r) (pairNumber r i j)
-unfolding pairNumber
-pair-in r i j h l u = let e = pair-high r i h (omega arith) in (omega arith, omega arith)
+-- X(i,j), i<j, is from 1 to P
+pair-in : (N i j : ℕ) → i < j → j < N → In (P N) (pairNumber N i j)
+pair-in N i j l u =
+    let e = pair-number N i j (omega arith) in
+    let f = pairs-count N in
+    let g = pairs-grow N i N (omega arith) in
+    (omega arith, omega arith)
 
 -- X(i,j) is from 1 to P
-pub joined-in : (r i j : ℕ) → r ≤ 7 → i < terminals r → j < terminals r → i ≢ j → In (P r) (X r i j)
-joined-in r i j h l u d =
-    ⊎-elim (λ (k : j ≤ i). subst (In (P r)) (sym (joined-high r i j k)) (pair-in r j i h (below-of k) l))
-    (λ (k : i < j). subst (In (P r)) (sym (joined-low r i j k)) (pair-in r i j h k u))
+pub joined-in : (N i j : ℕ) → i < N → j < N → i ≢ j → In (P N) (X N i j)
+joined-in N i j l u d =
+    ⊎-elim (λ (k : j ≤ i). subst (In (P N)) (sym (joined-high N i j k)) (pair-in N j i (omega (arith, d)) l))
+    (λ (k : i < j). subst (In (P N)) (sym (joined-low N i j k)) (pair-in N i j k u))
     (le? j i)
-  where
-    below-of : j ≤ i → j < i
-    below-of k = omega (arith, d)
 
 -- L(s,v) is from 1 to P + 2n·r
-pub chosen-in : (n r s v : ℕ) → s < r → v < 2 * n → In (P r + 2 * n * r) (L n r s v)
+pub chosen-in : (n N r s v : ℕ) → s < r → v < 2 * n → In (P N + 2 * n * r) (L n N s v)
 unfolding L
-chosen-in n r s v h l =
+chosen-in n N r s v h l =
     let e = mul-add (2 * n) s 1 in
     let m = mul-le-mul {n₁ = 2 * n} {m₁ = s + 1} {n₂ = 2 * n} {m₂ = r} (le-refl _) (omega arith) in
     (omega arith, omega arith)
@@ -73,15 +66,15 @@ entered-in r m B t e h k l u =
     let f = mul-le-mul {n₁ = t - 1 + 1} {m₁ = 2 * r + 1} {n₂ = m} {m₂ = 2 * r + 1} (omega arith) (le-refl _) in
     (omega arith, omega arith)
 
-module _ (n r m top : ℕ) (small : r ≤ 7) (base : P r + 2 * n * r ≤ top) where
-  joined : (i j : ℕ) → i < terminals r → j < terminals r → i ≢ j → In top (X r i j)
-  joined i j h l d = let e = joined-in r i j small h l d in (e .0, omega arith)
+module _ (n r m top : ℕ) (base : networkVariables n r ≤ top) where
+  joined : (i j : ℕ) → i < terminals r → j < terminals r → i ≢ j → In top (X (terminals r) i j)
+  joined i j h l d = let e = joined-in (terminals r) i j h l d in (e .0, omega arith)
 
-  chosen : (s v : ℕ) → s < r → v < 2 * n → In top (L n r s v)
-  chosen s v h k = let e = chosen-in n r s v h k in (e .0, omega arith)
+  chosen : (s v : ℕ) → s < r → v < 2 * n → In top (L n (terminals r) s v)
+  chosen s v h k = let e = chosen-in n (terminals r) r s v h k in (e .0, omega arith)
 
   -- group 1
-  pub transitivity-in : Each (ClauseIn top) (transitivity r)
+  pub transitivity-in : Each (ClauseIn top) (transitivity (terminals r))
   unfolding transitivity
   transitivity-in =
       each-blocks _ (terminals r) _ (λ i a. each-blocks _ _ _ (λ j b. each-blocks _ _ _ (λ k d.
@@ -94,7 +87,7 @@ module _ (n r m top : ℕ) (small : r ≤ 7) (base : P r + 2 * n * r ≤ top) wh
       ((ij, (jk, (ik, tt))), ((ij, (ik, (jk, tt))), ((ik, (jk, (ij, tt))), tt))))))
 
   -- group 2
-  pub choices-in : Each (ClauseIn top) (choices n r)
+  pub choices-in : Each (ClauseIn top) (choices n (terminals r) r)
   unfolding choices choice
   choices-in =
       each-blocks _ r _ (λ s a. (
@@ -128,7 +121,7 @@ module _ (n r m top : ℕ) (small : r ≤ 7) (base : P r + 2 * n * r ≤ top) wh
       first-in : 1 ≤ m → Each (ClauseIn top) (firstStep r B)
       unfolding firstStep
       first-in h =
-          each-join _ (for 1 (2 * r) (λ e. (neg (W r B 1 e) ∷ pos (X r source e) ∷ []) ∷ [])) _
+          each-join _ (for 1 (2 * r) (λ e. (neg (W r B 1 e) ∷ pos (X (terminals r) source e) ∷ []) ∷ [])) _
           (each-blocks _ (2 * r) _ (λ e b.
           ((entered 1 (1 + e) (omega arith) h (omega arith) (omega arith), (joined source (1 + e) (omega arith) (omega arith) (λ z. omega arith), tt)), tt)))
           ((entered 1 (2 * r + 1) (omega arith) h (omega arith) (omega arith), (joined source (sink r) (omega arith) (omega arith) (λ z. omega arith), tt)), tt)
@@ -141,7 +134,7 @@ module _ (n r m top : ℕ) (small : r ≤ 7) (base : P r + 2 * n * r ≤ top) wh
           let e' : ℕ = 1 + e in
           let o : other e' ≤ 2 * r = omega arith in
           let here = entered t' e' (omega arith) (omega arith) (omega arith) (omega arith) in
-          each-join _ (for 1 (2 * r) (λ g. cond (eqb g (other e')) [] ((neg (W r B t' e') ∷ neg (W r B (t' + 1) g) ∷ pos (X r (other e') g) ∷ []) ∷ []))) _
+          each-join _ (for 1 (2 * r) (λ g. cond (eqb g (other e')) [] ((neg (W r B t' e') ∷ neg (W r B (t' + 1) g) ∷ pos (X (terminals r) (other e') g) ∷ []) ∷ []))) _
           (each-blocks _ (2 * r) _ (λ g d. each-cond _ (eqb (1 + g) (other e')) _ _ (λ _. tt) (λ z. (
             (
               here,
@@ -179,13 +172,13 @@ module _ (n r m top : ℕ) (small : r ≤ 7) (base : P r + 2 * n * r ≤ top) wh
           (each-join _ (firstStep r B) _ (first-in h) (each-join _ (linkStep r m B) _ link-in (last-in h)))))
 
     -- an off row
-    off-in : B + terminals r ≤ top → Each (ClauseIn top) (offRow n r B value)
+    off-in : B + terminals r ≤ top → Each (ClauseIn top) (offRow n (terminals r) r B value)
     unfolding offRow netSides switchSides S
     off-in fits = (
       (side source (omega arith), tt),
       (
         (side (sink r) (omega arith), tt),
-        each-join _ (netSides r B) _
+        each-join _ (netSides (terminals r) B) _
             (each-blocks _ (terminals r) _ (λ i a. each-blocks _ _ _ (λ j b.
             let i' : ℕ = 0 + i in
             let j' : ℕ = i' + 1 + j in
@@ -212,27 +205,29 @@ module _ (n r m top : ℕ) (small : r ≤ 7) (base : P r + 2 * n * r ≤ top) wh
       each-join _ (rowClauses n r m B row) _ (one (row .on) (omega arith)) (rows-in (B + rowVariables r m row) rows (omega arith))
     where
       one : (b : Bool) → B + cond b (m * (2 * r + 1)) (terminals r) ≤ top
-          → Each (ClauseIn top) (cond b (onRow n r m B (row .value)) (offRow n r B (row .value)))
+          → Each (ClauseIn top) (cond b (onRow n r m B (row .value)) (offRow n (terminals r) r B (row .value)))
       one true h = on-in B (row .value) h
       one false h = off-in B (row .value) h
 
 -- every variable of a request's clauses is from 1 to V
-pub range : (q : Request) → Good q → Each (Each (λ l. (1 ≤ l .variable) × (l .variable ≤ variableCount q))) (formulaOf q)
+pub range : (q : Request) → Each (Each (λ l. (1 ≤ l .variable) × (l .variable ≤ variableCount q))) (formulaOf q)
 unfolding formulaOf formula rowsOf variableCount variablesBefore
-range q g =
+range q =
     let e = variables-below (q .n) (q .table) (q .r) (q .m) (2 ^ (q .n)) in
-    each-join _ (transitivity (q .r)) _ (transitivity-in (q .n) (q .r) (q .m) (variableCount q) (g .r-high) (omega arith))
-    (each-join _ (choices (q .n) (q .r)) _ (choices-in (q .n) (q .r) (q .m) (variableCount q) (g .r-high) (omega arith))
-    (rows-in (q .n) (q .r) (q .m) (variableCount q) (g .r-high) (omega arith) (P (q .r) + 2 * q .n * q .r) (rowsOf (q .n) (q .table)) (omega arith)))
+    let N : ℕ = terminals (q .r) in
+    each-join _ (transitivity N) _ (transitivity-in (q .n) (q .r) (q .m) (variableCount q) (omega arith))
+    (each-join _ (choices (q .n) N (q .r)) _ (choices-in (q .n) (q .r) (q .m) (variableCount q) (omega arith))
+    (rows-in (q .n) (q .r) (q .m) (variableCount q) (omega arith) (P N + 2 * q .n * q .r) (rowsOf (q .n) (q .table)) (omega arith)))
 
--- V is at most 1856
-pub variables-most : (q : Request) → Good q → variableCount q ≤ 1856
+-- V is no more than the most variables
+pub variables-most : (q : Request) → Good q → variableCount q ≤ variablesMost
 unfolding variableCount variablesBefore split P
 variables-most q g =
-    let p = pairs-most (q .r) (g .r-high) in
+    let p = pairs-most (terminals (q .r)) (omega (arith, g .r-high)) in
     let l = chosen-most (q .n) (q .r) (g .n-high) (g .r-high) in
     let most = rows-high (q .n) (g .n-high) in
     let within = on-most (q .table) (2 ^ (q .n)) in
     let on : ℕ = onBelow (q .table) (2 ^ (q .n)) in
-    let rows = weighted-most on (2 ^ (q .n) - on) (q .m * (2 * q .r + 1)) (terminals (q .r)) 105 (omega arith) (steps-most (q .r) (q .m) (g .r-high) (g .m-high)) (omega (arith, g .r-high)) in
+    let steps = steps-most (q .r) (q .m) (g .r-high) (g .m-high) in
+    let rows = weighted-most on (2 ^ (q .n) - on) _ (terminals (q .r)) _ (omega arith) steps (omega (arith, g .r-high)) in
     omega arith

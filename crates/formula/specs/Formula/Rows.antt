@@ -1,10 +1,8 @@
 -- Laws of the rows' clauses: the clauses of some rows and then of others, and the clause at a place of a row. Assumes nothing.
 use mathlib.Core.Path.{_≡_, sym, ap, _∙_}
 use mathlib.Core.List.{List, [], _∷_, _++_, append-assoc}
-use Prim.Native.Nat.{ℕ, suc, _+_, _<_}
+use Prim.Native.Nat.{ℕ, _+_}
 use native.Mathlib.Nat.{add-zero, add-assoc}
-use lib.ListN.{length, getD, take, drop, List·getD-append}
-use lib.Seq.{split-at, getD-append-add}
 use Rattle.cnf.specs.Cnf.{Formula}
 use Rattle.rows.specs.Rows.{Row}
 use Rattle.formula.specs.Formula.{rowVariables, rowClauses, rowsFrom}
@@ -30,17 +28,3 @@ unfolding variablesIn
 variables-append r m [] b = sym (native.Mathlib.Nat.zero-add (variablesIn r m b))
 variables-append r m (row ∷ a) b =
     ap (λ (x : ℕ). rowVariables r m row + x) (variables-append r m a b) ∙ sym (add-assoc (rowVariables r m row) (variablesIn r m a) (variablesIn r m b))
-
--- clause j of row k, past the clauses of the rows before it
-pub rows-at : (n r m B : ℕ) (rows : List Row) (d : Row) (k j : ℕ) → k < length rows
-    → j < length (rowClauses n r m (B + variablesIn r m (take k rows)) (getD rows k d))
-    → getD (rowsFrom n r m B rows) (length (rowsFrom n r m B (take k rows)) + j) []
-    ≡ getD (rowClauses n r m (B + variablesIn r m (take k rows)) (getD rows k d)) j []
-unfolding rowsFrom
-rows-at n r m B rows d k j h l =
-    let first : Formula = rowsFrom n r m B (take k rows) in
-    let row : Formula = rowClauses n r m (B + variablesIn r m (take k rows)) (getD rows k d) in
-    let rest : Formula = rowsFrom n r m (B + variablesIn r m (take k rows) + rowVariables r m (getD rows k d)) (drop (suc k) rows) in
-    ap (λ (x : List Row). getD (rowsFrom n r m B x) (length first + j) []) (split-at rows k d h)
-    ∙ ap (λ (f : Formula). getD f (length first + j) []) (rows-append n r m B (take k rows) (getD rows k d ∷ drop (suc k) rows))
-    ∙ getD-append-add first (row ++ rest) j [] ∙ List·getD-append row rest [] j l

@@ -3,18 +3,15 @@ use mathlib.Core.Path.{_≡_, refl, sym, ap, ap₂, _∙_}
 use mathlib.Core.List.{List}
 use mathlib.Core.Logic.{⊎-elim}
 use Prim.Native.Nat.{ℕ, zero, suc, _+_, _-_, _*_, _/_, _≤_, _<_}
-use native.Mathlib.Nat.{eq-or-lt-of-le, add-mul, add-assoc, zero-mul}
+use native.Mathlib.Nat.{eq-or-lt-of-le, add-mul, mul-add, mul-assoc, mul-comm, suc-mul, mul-sub, mul-le-mul, add-assoc, zero-mul}
 use native.Mathlib.Numerals.{add-one}
 use native.Mathlib.Omega.{arith}
 use lib.Arith.{digits-lt}
-use lib.Dec.{eqb, eqb→eq, leb, leb→le}
 use lib.ListN.{length, getD, length-append}
-use borrow.Author.Tests.{le-leb, lt-leb}
 use Rattle.prelude.specs.Tests.{le?}
-use Rattle.prelude.specs.Finite.{below-at}
 use Rattle.prelude.specs.Blocks.{each, for}
 use Rattle.prelude.specs.Blocks.Laws.{each-same, each-length, each-at, each-index}
-use Rattle.formula.specs.Pairs.{pairsBefore, pairCount, PairIs, PairAt, triplesBefore, TripleIs}
+use Rattle.formula.specs.Pairs.{pairsBefore, PairIs, triplesBefore, TripleIs}
 
 -- a count that is not used up lies below the end
 pub inside : (f : ℕ → ℕ) (c v q : ℕ) → v ≤ c → f v + q < f c → v < c
@@ -37,54 +34,81 @@ pub triples-more : (c k : ℕ) → triplesBefore c (k + 1) ≡ triplesBefore c k
 unfolding triplesBefore
 triples-more c k = rw add-one
 
--- the number of all pairs below c, and that it and c times c are small
-pub pairs-all : (c : ℕ) → c ≤ 16
-    → ((c * c - c) / 2 ≡ pairsBefore c c) × (pairsBefore c c ≤ 120) × (c ≤ c * c) × (c * c ≤ 256)
+-- the number of pairs below c whose v is below k, by its formula
+pairs-twice : (c k : ℕ) → k ≤ c → 2 * pairsBefore c k ≡ k * (2 * c - k - 1)
 unfolding pairsBefore
-pairs-all c h = (
-  eqb→eq _ _ (below-at 17 (λ c. eqb ((c * c - c) / 2) (pairsBefore c c)) tt c (omega arith)),
-  leb→le (pairsBefore c c) 120 (below-at 17 (λ c. leb (pairsBefore c c) 120) tt c (omega arith)),
-  leb→le c (c * c) (below-at 17 (λ c. leb c (c * c)) tt c (omega arith)),
-  leb→le (c * c) 256 (below-at 17 (λ c. leb (c * c) 256) tt c (omega arith)),
-)
+pairs-twice c zero h = sym (zero-mul _)
+pairs-twice c (suc k) h =
+    let y : ℕ = 2 * c - suc k - 1 in
+    let up : 2 * c - k - 1 ≡ y + 1 = omega arith in
+    let before : 2 * pairsBefore c k ≡ k * y + k * 1 = pairs-twice c k (omega arith) ∙ ap (λ (x : ℕ). k * x) up ∙ mul-add k y 1 in
+    let next = suc-mul k y in
+    omega arith
 
--- that number to 16, and above
-pub count-there : (c : ℕ) → c ≤ 16 → pairCount c ≡ pairsBefore c c
-unfolding pairCount
-count-there c h = rw (le-leb c 16 h)
+pub pairs-are : (c k : ℕ) → k ≤ c → k * (2 * c - k - 1) / 2 ≡ pairsBefore c k
+pairs-are c k h = let e = pairs-twice c k h in omega arith
 
-pub count-many : (c : ℕ) → 16 < c → 0 ≡ pairCount c
-unfolding pairCount
-count-many c h = rw (lt-leb c 16 h)
+-- the number of all pairs below c, by its formula
+pub pairs-all : (c : ℕ) → (c * c - c) / 2 ≡ pairsBefore c c
+pairs-all c =
+    let e = pairs-twice c c (omega arith) in
+    let f : 2 * c - c - 1 ≡ c - 1 = omega arith in
+    let g : c * (2 * c - c - 1) ≡ c * c - c * 1 = ap (λ (x : ℕ). c * x) f ∙ mul-sub c c 1 in
+    omega arith
 
--- a number below it
-pub count-inside : (c q : ℕ) → q < pairCount c → (c ≤ 16) × (q < pairsBefore c c)
-count-inside c q h =
-    ⊎-elim (λ (l : c ≤ 16). let e = count-there c l in (l, omega arith)) (λ (m : 16 < c). let e = count-many c m in absurd (omega arith)) (le? c 16)
+-- its square is no less than c
+pub square-up : (c : ℕ) → c ≤ c * c
+square-up zero = omega arith
+square-up (suc c) = let e = suc-mul c (suc c) in omega arith
+
+-- all of them are small
+pub pairs-small : (c : ℕ) → c ≤ 512 → (c * c ≤ 262144) × (pairsBefore c c ≤ 131072)
+pairs-small c h =
+    let e = pairs-all c in
+    let m = mul-le-mul {n₁ = c} {m₁ = c} {n₂ = 512} {m₂ = 512} h h in
+    (m, omega arith)
+
+-- one number more below c: the triples that start with it, and those of before
+triples-step : (c h : ℕ) → triplesBefore (suc c) (suc h) ≡ pairsBefore c c + triplesBefore c h
+unfolding triplesBefore
+triples-step c zero = ap (λ (x : ℕ). 0 + pairsBefore x x) (let e : suc c - 1 ≡ c = omega arith in e) ∙ omega arith
+triples-step c (suc h) =
+    let e : suc c - suc (suc h) ≡ c - suc h = omega arith in
+    let f = triples-step c h in
+    let g = ap (λ (x : ℕ). pairsBefore x x) e in
+    omega arith
+
+triples-six : (c : ℕ) → 6 * triplesBefore c c ≡ c * (c - 1) * (c - 2)
+unfolding triplesBefore pairsBefore
+triples-six zero = refl
+triples-six (suc zero) = refl
+triples-six (suc (suc zero)) = refl
+triples-six (suc (suc (suc e))) =
+    let c : ℕ = suc (suc e) in
+    let p : ℕ = c * suc e in
+    let pairs : 2 * pairsBefore c c ≡ p = pairs-twice c c (omega arith) ∙ ap (λ (x : ℕ). c * x) (omega arith) in
+    let one : c - 1 ≡ suc e = omega arith in
+    let two : c - 2 ≡ e = omega arith in
+    let before : 6 * triplesBefore c c ≡ p * e = triples-six (suc (suc e)) ∙ ap₂ (λ (x y : ℕ). c * x * y) one two in
+    let step = triples-step c c in
+    let up : suc c - 1 ≡ c = omega arith in
+    let next : suc c - 2 ≡ suc e = omega arith in
+    let whole : suc c * (suc c - 1) * (suc c - 2) ≡ p * suc c =
+    ap₂ (λ (x y : ℕ). suc c * x * y) up next ∙ mul-assoc (suc c) c (suc e) ∙ mul-comm (suc c) p in
+    let three : suc c ≡ e + 3 = omega arith in
+    let more : p * suc c ≡ p * e + p * 3 = ap (λ (x : ℕ). p * x) three ∙ mul-add p e 3 in
+    omega arith
+
+-- the number of all triples below c, by its formula
+pub triples-all : (c : ℕ) → c * (c - 1) * (c - 2) / 2 ≡ triplesBefore c c * 3
+triples-all c = let e = triples-six c in omega arith
 
 -- a row of pairs ends before a later one starts
-pairs-grow : (c v x : ℕ) → v < x → pairsBefore c v + (c - (v + 1)) ≤ pairsBefore c x
+pub pairs-grow : (c v x : ℕ) → v < x → pairsBefore c v + (c - (v + 1)) ≤ pairsBefore c x
 unfolding pairsBefore
 pairs-grow c v zero h = absurd (omega arith)
 pairs-grow c v (suc x) h =
     ⊎-elim (λ (l : x ≤ v). let e : v ≡ x = omega arith in rw e (omega arith)) (λ (l : v < x). let g = pairs-grow c v x l in omega arith) (le? x v)
-
--- the v of a pair is at most that of any pair with its number
-pair-first : (c q v w x y : ℕ) → PairIs c q v w → PairIs c q x y → v ≤ x
-pair-first c q v w x y p s =
-    ⊎-elim (λ (l : v ≤ x). l) (λ (l : x < v). let g = pairs-grow c x v l in absurd (omega arith)) (le? v x)
-
--- a number has one pair, or none
-pub pair-unique : (c q v w x y : ℕ) → PairAt c q v w → PairAt c q x y → (v ≡ x) × (w ≡ y)
-pair-unique c q v w x y p s =
-    ⊎-elim (λ (l : pairCount c ≤ q). let a = p .none l in let b = s .none l in (omega arith, omega arith)) (λ (l : q < pairCount c).
-    let a = p .there l in
-    let b = s .there l in
-    let f = pair-first c q v w x y a b in
-    let g = pair-first c q x y v w b a in
-    let e : v ≡ x = omega arith in
-    let k : pairsBefore c v ≡ pairsBefore c x = ap (pairsBefore c) e in
-    (e, omega arith)) (le? (pairCount c) q)
 
 module _ {A : Type 0} (b : ℕ) where
   -- blocks g v w for the pairs v < w below c, in rows of one v

@@ -9,29 +9,24 @@ use Rattle.formula.specs.Formula.{formulaOf}
 use Rattle.lrat.specs.declared.Checked.{Checked}
 use Rattle.lrat.specs.declared.Outcome.{Outcome}
 use Rattle.lrat.specs.Outcome.{outcomeNumber, numberOf, valuesOf}
-use Rattle.refutation.specs.Refutation.{Lent, checkNumber, checkValues, checkLeaves}
-use Rattle.refutation.specs.Refutation.Sound.{number-none, none-unsatisfiable, none-more}
+use Rattle.lrat_check.specs.Refutation.{Lent, checkNumber, checkValues, checkLeaves}
+use Rattle.lrat_check.specs.Refutation.Sound.{number-none, none-unsatisfiable, none-more}
 use borrow.Author.Needs.{needs}
+use Rattle.host.specs.Entries.{Checks}
 use Rattle.host.proofs.nk_check_refutation.Statement.{statement}
 use Rattle.host.proofs.nk_check_refutation.Tie as tie
 
 -- a result x with the outcome o, by o's number
 handed : (q : Request) (text : List ℕ) (before after : Lent) (x : Checked) (o : Outcome) → x .outcome ≡ o → after ≡ checkLeaves q text before
     → numberOf x ≡ checkNumber q text before → valuesOf x ≡ checkValues q text before
-    → (outcomeNumber o ≡ checkNumber q text before) × ((valuesOf x ≡ checkValues q text before) × ((after ≡ checkLeaves q text before)
-    × ((outcomeNumber o ≡ 0 → Satisfiable (formulaOf q) → ⊥) × (outcomeNumber o ≡ 0 → MoreThan q))))
+    → Checks q text before (outcomeNumber o) (x .count) after
+    × ((outcomeNumber o ≡ 0 → Satisfiable (formulaOf q) → ⊥) × (outcomeNumber o ≡ 0 → MoreThan q))
 handed q text before after x o e s n v =
     let z = ap outcomeNumber (sym e) ∙ n in (
-      z,
+      record { answer-is = z; count-is = v; slices-are = s },
       (
-        v,
-        (
-          s,
-          (
-            λ y. none-unsatisfiable q text before (number-none q text before (sym z ∙ y)),
-            λ y. none-more q text before (number-none q text before (sym z ∙ y)),
-          ),
-        ),
+        λ y. none-unsatisfiable q text before (number-none q text before (sym z ∙ y)),
+        λ y. none-more q text before (number-none q text before (sym z ∙ y)),
       ),
     )
 

@@ -5,8 +5,8 @@ use Prim.Native.Nat.{ℕ}
 use lib.ListN.{getD}
 use Rattle.request.specs.declared.Request.{Request}
 use Rattle.request.specs.Numbers.{refusalOf}
-use Rattle.size.specs.declared.Answer.{Answer}
-use Rattle.size.specs.File.{numberOf, valuesOf, sizeValues}
+use Rattle.dimacs.specs.declared.Answer.{Answer}
+use Rattle.dimacs.specs.File.{numberOf, valuesOf, sizeValues}
 use borrow.Author.Needs.{needs}
 use Rattle.host.proofs.nk_file_size.Statement.{statement}
 use Rattle.host.proofs.nk_file_size.Tie as tie

@@ -4,16 +4,16 @@ use mathlib.Core.List.{List}
 use Prim.Native.Nat.{ℕ}
 use borrow.Author.Needs.{needs}
 use Rattle.request.specs.declared.Request.{Request}
-use Rattle.refutation.specs.Refutation.{Lent, lent}
+use Rattle.lrat_check.specs.Refutation.{Lent, lent}
 use Rattle.settle.specs.declared.Settlement.{Settlement}
 use Rattle.settle.specs.declared.Verdict.the-variants.{Least}
 use Rattle.network.specs.Least.{LeastFor}
 use Rattle.settle.specs.Settle.{verdictNumber, verdictValues, settleNumber, settleValues, settlement, settleLeaves}
-use Rattle.network_bytes.specs.Bytes.{networkBytes, networkOf}
-use Rattle.network_bytes.specs.Bytes.Laws.{bytes-back}
+use Rattle.host.specs.Bytes.{networkBytes, networkOf}
+use Rattle.host.specs.Bytes.Laws.{bytes-back}
 use lib.ListN.{length}
 use Rattle.settle.specs.Settle.Meaning.{least-arrays}
-use Rattle.host.specs.Entries.{verdictCode, verdictDetail}
+use Rattle.host.specs.Entries.{verdictCode, verdictDetail, Settles}
 use Rattle.host.specs.Entries.Laws.{code-least}
 use Rattle.host.proofs.nk_settle.Statement.{statement}
 use Rattle.host.proofs.nk_settle.Tie as tie
@@ -34,22 +34,15 @@ module _ (q : Request) (answer refutation : List ℕ) (before : Lent) (x : Settl
   handed : (code : ℕ) → code ≡ verdictCode (verdictValues (q .r) (x .verdict))
       → (number : ℕ) → number ≡ verdictDetail (verdictNumber (x .verdict)) (verdictValues (q .r) (x .verdict))
       → (bytes : List ℕ) → bytes ≡ networkBytes (x .network)
-      → (code ≡ verdictCode (settleValues q answer refutation before))
-      × ((number ≡ verdictDetail (settleNumber q answer) (settleValues q answer refutation before))
-      × ((bytes ≡ networkBytes (settlement q answer refutation before .network))
-      × ((l ≡ settleLeaves q answer refutation before) × (code ≡ 0 → LeastFor q (networkOf bytes)))))
+      → Settles q answer refutation before code number bytes l × (code ≡ 0 → LeastFor q (networkOf bytes))
   handed code c number n bytes b = (
-    c ∙ ap verdictCode values-are,
-    (
-      n ∙ ap₂ verdictDetail number-is values-are,
-      (
-        b ∙ ap (λ (y : Settlement). networkBytes (y .network)) x-is,
-        (
-          l-is,
-          λ z. let e = code-least (q .r) (x .verdict) (sym c ∙ z) in subst (LeastFor q) (sym (back e bytes b)) (least e),
-        ),
-      ),
-    ),
+    record {
+      verdict-is = c ∙ ap verdictCode values-are;
+      number-is = n ∙ ap₂ verdictDetail number-is values-are;
+      network-is = b ∙ ap (λ (y : Settlement). networkBytes (y .network)) x-is;
+      slices-are = l-is;
+    },
+    λ z. let e = code-least (q .r) (x .verdict) (sym c ∙ z) in subst (LeastFor q) (sym (back e bytes b)) (least e),
   )
 
 settle-requires : tie.Need-settle-requires

@@ -5,8 +5,8 @@ use Prim.Native.Nat.{ℕ}
 use lib.ListN.{length, getD}
 use Rattle.request.specs.declared.Request.{Request}
 use Rattle.encoding.specs.Encoding.{FileMeans}
-use Rattle.size.specs.declared.Answer.{Answer}
-use Rattle.size.specs.File.{numberOf, valuesOf, writeNumber, writeValues, fileWritten}
+use Rattle.dimacs.specs.declared.Answer.{Answer}
+use Rattle.dimacs.specs.File.{numberOf, valuesOf, writeNumber, writeValues, fileWritten}
 use Rattle.dimacs.specs.Means.{number-means}
 use borrow.Author.Needs.{needs}
 use Rattle.host.proofs.nk_write_file.Statement.{statement}

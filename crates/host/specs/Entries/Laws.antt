@@ -22,12 +22,11 @@ unfolding sizeNumbers
 sizes-numbers q x e z =
     let r : x .refusal ≡ refusalOf q = ap (λ (y : Sizes). y .refusal) e ∙ sizes-refusal q in
     let o : refusalOf q ≡ 0 = sym r ∙ z in
-    let g = refusal-good q o in
     let f = e ∙ sizes-taken q o in
     let v = ap (λ (y : Sizes). y .variables) f in
     let c = ap (λ (y : Sizes). y .clauses) f in
     let l = ap (λ (y : Sizes). y .literals) f in
-    (r, rw (eq-eqb (refusalOf q) 0 o, clause-count q (g .n-high), literal-count q (g .n-high), v, c, l))
+    (r, rw (eq-eqb (refusalOf q) 0 o, clause-count q, literal-count q, v, c, l))
 
 -- and none of one that is refused
 pub sizes-none : (q : Request) (x : Sizes) → x ≡ sizesOf q → (x .refusal ≡ 0 → ⊥) → (x .refusal ≡ refusalOf q) × (sizeNumbers q ≡ [])

@@ -3,7 +3,7 @@ use mathlib.Core.Path.{_≡_, refl, sym, ap, _∙_, fun-ext}
 use mathlib.Core.Bool.{Bool, true, false, not, _&&_}
 use mathlib.Core.List.{List, [], _∷_}
 use mathlib.Core.Logic.{_⊎_, inl, inr}
-use mathlib.Core.Option.{Option, none, some}
+use mathlib.Core.Option.{none, some}
 use Prim.Native.Nat.{ℕ, zero, suc, _+_, _-_, _≤_, _<_}
 use native.Mathlib.Omega.{arith}
 use lib.Dec.{eqb, leb, ltb}
@@ -14,49 +14,37 @@ use Rattle.prelude.specs.Tests.{eq?, le?}
 use Rattle.cnf.specs.Cnf.{Clause}
 use Rattle.numeral.specs.declared.Word.{Word}
 use Rattle.numeral.specs.Number.{byteAt, literalAt}
-use Rattle.lrat.specs.declared.Said.{Said}
+use Rattle.lrat.specs.declared.LiteralsRead.{LiteralsRead}
 use Rattle.lrat.specs.Rules.{Values, unset, assign, literalValue, falsified, named, literalsGood}
 use Rattle.lrat.specs.Words.{literal, literalOf, literalsAt, run, runAt}
 use Rattle.lrat.specs.Words.Laws.{literal-reads, literals-none, literals-more, run-unspaced, run-wordless, run-last, run-more}
-use Rattle.lrat.specs.Bytes.{valuesIn, Small, Old, zeros, side, valueOf, Told}
+use Rattle.lrat.specs.Bytes.{valuesIn, DuringLine, BeforeLine, zeros, AfterLiterals}
 
--- ---- the value of a literal
+-- ---- the value of a literal by its byte
 module _ (g : ℕ) (vs : List ℕ) (m v : ℕ) where
   -- a byte below the stamp
-  pub value-unset : getD vs v 0 < g → 0 ≡ valueOf g vs m v
-  unfolding valueOf
+  pub value-unset : getD vs v 0 < g → literalValue (valuesIn g vs) (literal m v) ≡ none
   value-unset h = rw (lt-ltb (getD vs v 0) g h)
 
   -- the stamp and the minus
-  pub value-false : getD vs v 0 ≡ g + m → m ≤ 1 → 1 ≡ valueOf g vs m v
-  unfolding valueOf
-  value-false e h = go m h e
+  pub value-false : m ≤ 1 → getD vs v 0 ≡ g + m → literalValue (valuesIn g vs) (literal m v) ≡ some false
+  value-false h e = go m h e
     where
-      go : (k : ℕ) → k ≤ 1 → getD vs v 0 ≡ g + k → 1 ≡ valueOf g vs k v
+      go : (k : ℕ) → k ≤ 1 → getD vs v 0 ≡ g + k → literalValue (valuesIn g vs) (literal k v) ≡ some false
       go zero h e = rw (le-ltb (getD vs v 0) g (omega arith), le-ltb g (getD vs v 0) (omega arith))
       go (suc zero) h e = rw (le-ltb (getD vs v 0) g (omega arith), lt-ltb g (getD vs v 0) (omega arith))
       go (suc (suc k)) h e = absurd (omega arith)
 
   -- the other byte of the stamp
-  pub value-true : g ≤ getD vs v 0 → (getD vs v 0 ≡ g + m → ⊥) → getD vs v 0 ≤ g + 1 → m ≤ 1 → 2 ≡ valueOf g vs m v
-  unfolding valueOf
-  value-true l d u h = go m h d
+  pub value-true : m ≤ 1 → (getD vs v 0 ≡ g + m → ⊥) → g ≤ getD vs v 0 → getD vs v 0 ≤ g + 1 → literalValue (valuesIn g vs) (literal m v) ≡ some true
+  value-true h d l u = go m h d
     where
-      go : (k : ℕ) → k ≤ 1 → (getD vs v 0 ≡ g + k → ⊥) → 2 ≡ valueOf g vs k v
+      go : (k : ℕ) → k ≤ 1 → (getD vs v 0 ≡ g + k → ⊥) → literalValue (valuesIn g vs) (literal k v) ≡ some true
       go zero h d =
           let z : getD vs v 0 ≡ g → ⊥ = λ e. d (omega arith) in
           rw (le-ltb (getD vs v 0) g l, lt-ltb g (getD vs v 0) (omega arith))
       go (suc zero) h d = rw (le-ltb (getD vs v 0) g l, le-ltb g (getD vs v 0) (omega arith))
       go (suc (suc k)) h d = absurd (omega arith)
-
-side-most : (o : Option Bool) → side o ≤ 2
-side-most none = omega arith
-side-most (some false) = omega arith
-side-most (some true) = omega arith
-
-pub value-most : (g : ℕ) (vs : List ℕ) (m v : ℕ) → valueOf g vs m v ≤ 2
-unfolding valueOf
-value-most g vs m v = side-most (literalValue (valuesIn g vs) (literal m v))
 
 -- ---- setting a byte
 -- to the stamp or the one above it
@@ -89,8 +77,8 @@ set-past [] v b h = refl
 set-past (x ∷ vs) zero b h = absurd (omega arith)
 set-past (x ∷ vs) (suc v) b h = ap (λ (l : List ℕ). x ∷ l) (set-past vs v b (omega arith))
 
-pub set-small : (g : ℕ) (vs : List ℕ) (v b : ℕ) → b ≤ g + 1 → Small g vs → Small g (set vs v b)
-set-small g vs v b h s = record { most = λ u. go u (eq? u v) (le? (length vs) v) }
+pub set-during : (g : ℕ) (vs : List ℕ) (v b : ℕ) → b ≤ g + 1 → DuringLine g vs → DuringLine g (set vs v b)
+set-during g vs v b h s = record { most = λ u. go u (eq? u v) (le? (length vs) v) }
   where
     go : (u : ℕ) → (u ≡ v) ⊎ (u ≡ v → ⊥) → (length vs ≤ v) ⊎ (v < length vs) → getD (set vs v b) u 0 ≤ g + 1
     go u (inl e) (inr l) = rw (e, getD-set-same vs v b 0 l) h
@@ -99,8 +87,8 @@ set-small g vs v b h s = record { most = λ u. go u (eq? u v) (le? (length vs) v
 
 -- ---- from line to line
 -- under the next stamp what a line set is unset
-pub small-old : (g : ℕ) (vs : List ℕ) → Small g vs → Old (g + 2) vs
-small-old g vs s = record { less = λ u. omega (arith, s .most u) }
+pub during-before : (g : ℕ) (vs : List ℕ) → DuringLine g vs → BeforeLine (g + 2) vs
+during-before g vs s = record { less = λ u. omega (arith, s .most u) }
 
 getD-zeros : (n u : ℕ) → getD (zeros n) u 0 ≡ 0
 unfolding zeros
@@ -108,12 +96,12 @@ getD-zeros zero u = refl
 getD-zeros (suc n) zero = refl
 getD-zeros (suc n) (suc u) = getD-zeros n u
 
-pub zeros-old : (n : ℕ) → Old 1 (zeros n)
-zeros-old n = record { less = λ u. omega (arith, getD-zeros n u) }
+pub zeros-before : (n : ℕ) → BeforeLine 1 (zeros n)
+zeros-before n = record { less = λ u. omega (arith, getD-zeros n u) }
 
--- a line that sets nothing leaves every byte small
-pub old-small : (g : ℕ) (vs : List ℕ) → Old g vs → Small g vs
-old-small g vs o = record { most = λ u. omega (arith, o .less u) }
+-- before a line the bytes are as they may be during it
+pub before-during : (g : ℕ) (vs : List ℕ) → BeforeLine g vs → DuringLine g vs
+before-during g vs o = record { most = λ u. omega (arith, o .less u) }
 
 pub zeros-length : (n : ℕ) → length (zeros n) ≡ n
 unfolding zeros
@@ -125,10 +113,10 @@ unfoldable pub fresh : ℕ → List ℕ → Clause → Bool
 fresh g vs [] = true
 fresh g vs (l ∷ c) = ltb (getD vs (l .variable) 0) g && fresh g vs c
 
-fresh-old : (g : ℕ) (vs : List ℕ) → Old g vs → (c : Clause) → fresh g vs c ≡ true
+fresh-before : (g : ℕ) (vs : List ℕ) → BeforeLine g vs → (c : Clause) → fresh g vs c ≡ true
 unfolding fresh
-fresh-old g vs o [] = refl
-fresh-old g vs o (l ∷ c) = rw (lt-ltb (getD vs (l .variable) 0) g (o .less (l .variable))) (fresh-old g vs o c)
+fresh-before g vs o [] = refl
+fresh-before g vs o (l ∷ c) = rw (lt-ltb (getD vs (l .variable) 0) g (o .less (l .variable))) (fresh-before g vs o c)
 
 -- a variable that is set is not fresh any more
 fresh-set : (g : ℕ) (vs : List ℕ) (v b : ℕ) → g ≤ b → v < length vs → (c : Clause) → fresh g (set vs v b) c ≡ (not (named v c) && fresh g vs c)
@@ -149,57 +137,53 @@ fresh-set g vs v b z h (l ∷ c) = go (eq? v (l .variable)) (fresh-set g vs v b 
         (move (ltb (getD vs (l .variable) 0) g) (not (named v c)) (fresh g vs c))
 
 -- the pass over the literals under way: the form, what is said of all literals by those from p on, and the values so far
-pub record Telling (g top : ℕ) (t : List ℕ) (at p : ℕ) (good : Bool) (vs : List ℕ) : Type 0 where
-  pub long : length vs ≡ top + 1
-  pub small : Small g vs
+pub record ReadingLiterals (g variables : ℕ) (t : List ℕ) (at p : ℕ) (good : Bool) (vs : List ℕ) : Type 0 where
+  pub long : length vs ≡ variables + 1
+  pub during : DuringLine g vs
   pub form : runAt literalAt t at ≡ runAt literalAt t p
-  pub so-far : literalsGood top (literalsAt t at) ≡ (good && (literalsGood top (literalsAt t p) && fresh g vs (literalsAt t p)))
+  pub so-far : literalsGood variables (literalsAt t at) ≡ (good && (literalsGood variables (literalsAt t p) && fresh g vs (literalsAt t p)))
   pub vals : good ≡ true → falsified unset (literalsAt t at) ≡ falsified (valuesIn g vs) (literalsAt t p)
 
 and-true : (b : Bool) → b ≡ (b && true)
 and-true true = refl
 and-true false = refl
 
-pub telling-start : (g top : ℕ) (t : List ℕ) (at : ℕ) (vs : List ℕ) → length vs ≡ top + 1 → Old g vs → Telling g top t at at true vs
-telling-start g top t at vs h o =
+pub reading-start : (g variables : ℕ) (t : List ℕ) (at : ℕ) (vs : List ℕ) → length vs ≡ variables + 1 → BeforeLine g vs → ReadingLiterals g variables t at at true vs
+reading-start g variables t at vs h o =
     record {
       long = h;
-      small = record { most = λ u. omega (arith, o .less u) };
+      during = record { most = λ u. omega (arith, o .less u) };
       form = refl;
-      so-far = rw (fresh-old g vs o (literalsAt t at)) (and-true (literalsGood top (literalsAt t at)));
+      so-far = rw (fresh-before g vs o (literalsAt t at)) (and-true (literalsGood variables (literalsAt t at)));
       vals = λ _. ap (λ (τ : Values). falsified τ (literalsAt t at)) (fun-ext (λ u. rw (lt-ltb (getD vs u 0) g (o .less u))));
     }
 
 no-true : {A : Type 0} → false ≡ true → A
 no-true e = absurd (let z : _≡_ {A = ℕ} 0 1 = cc in omega arith)
 
-module _ {g top : ℕ} {t : List ℕ} {at p : ℕ} {good : Bool} {vs : List ℕ} (s : Telling g top t at p good vs) where
+module _ {g variables : ℕ} {t : List ℕ} {at p : ℕ} {good : Bool} {vs : List ℕ} (s : ReadingLiterals g variables t at p good vs) where
   -- a run that has not the form
-  bad-run : runAt literalAt t p ≡ run 0 0 → (r : Said) → r .end ≡ 0 → r .next ≡ 0 → Told g top t at r vs
+  bad-run : runAt literalAt t p ≡ run 0 0 → (r : LiteralsRead) → r .end ≡ 0 → r .next ≡ 0 → AfterLiterals g variables t at r vs
   bad-run e r x y =
-      record { form = rw (x, y) (sym (s .form ∙ e)); small = s .small; good = λ d. absurd (d y); vals = λ d. absurd (d y) }
+      record { form = rw (x, y) (sym (s .form ∙ e)); during = s .during; good = λ d. absurd (d y); vals = λ d. absurd (d y) }
 
-  pub told-unspaced : (byteAt t p ≡ 32 → ⊥) → (r : Said) → r .end ≡ 0 → r .next ≡ 0 → Told g top t at r vs
-  told-unspaced d = bad-run (run-unspaced literalAt literal-reads t p d)
+  pub literals-unspaced : (byteAt t p ≡ 32 → ⊥) → (r : LiteralsRead) → r .end ≡ 0 → r .next ≡ 0 → AfterLiterals g variables t at r vs
+  literals-unspaced d = bad-run (run-unspaced literalAt literal-reads t p d)
 
   module _ (w : Word) (is : w ≡ literalAt t (p + 1)) (space : byteAt t p ≡ 32) where
-    pub told-wordless : w .next ≡ 0 → (r : Said) → r .end ≡ 0 → r .next ≡ 0 → Told g top t at r vs
-    told-wordless e = bad-run (run-wordless literalAt literal-reads t p w is space e)
+    pub literals-wordless : w .next ≡ 0 → (r : LiteralsRead) → r .end ≡ 0 → r .next ≡ 0 → AfterLiterals g variables t at r vs
+    literals-wordless e = bad-run (run-wordless literalAt literal-reads t p w is space e)
 
     module _ (there : w .next ≡ 0 → ⊥) where
-      and-end : (b : Bool) → (b && true) ≡ b
-      and-end true = refl
-      and-end false = refl
-
       -- the 0 ends the literals
-      pub told-end : w .value ≡ 0 → (r : Said) → r .end ≡ p → r .next ≡ w .next → r .good ≡ good → Told g top t at r vs
+      pub literals-end : w .value ≡ 0 → (r : LiteralsRead) → r .end ≡ p → r .next ≡ w .next → r .good ≡ good → AfterLiterals g variables t at r vs
       unfolding fresh
-      told-end z r x y q =
+      literals-end z r x y q =
           let n = literals-none t p w is z in
           record {
             form = rw (x, y) (sym (s .form ∙ run-last literalAt literal-reads t p w is space there z));
-            small = s .small;
-            good = λ _. q ∙ sym (s .so-far ∙ rw n (and-end good));
+            during = s .during;
+            good = λ _. q ∙ sym (s .so-far ∙ rw n (sym (and-true good)));
             vals = λ _ e. sym (s .vals (sym q ∙ e) ∙ ap (falsified (valuesIn g vs)) n);
           }
 
@@ -211,8 +195,8 @@ module _ {g top : ℕ} {t : List ℕ} {at p : ℕ} {good : Bool} {vs : List ℕ}
         next-is = literals-more t p w is more
 
         -- past the first refused literal the answer is no, whatever is set
-        refused : literalsGood top (literalsAt t at) ≡ false → (us : List ℕ) → length us ≡ top + 1 → Small g us → Telling g top t at (w .next) false us
-        refused e us l m = record { long = l; small = m; form = on; so-far = e; vals = λ q. no-true q }
+        refused : literalsGood variables (literalsAt t at) ≡ false → (us : List ℕ) → length us ≡ variables + 1 → DuringLine g us → ReadingLiterals g variables t at (w .next) false us
+        refused e us l m = record { long = l; during = m; form = on; so-far = e; vals = λ q. no-true q }
 
         and-no : (a b c : Bool) → (a && (b && (false && c))) ≡ false
         and-no true true c = refl
@@ -225,44 +209,44 @@ module _ {g top : ℕ} {t : List ℕ} {at p : ℕ} {good : Bool} {vs : List ℕ}
         high false x y z = refl
 
         -- a variable above V
-        pub telling-high : top < w .value → Telling g top t at (w .next) false vs
-        telling-high h =
+        pub reading-high : variables < w .value → ReadingLiterals g variables t at (w .next) false vs
+        reading-high h =
             refused
-            (s .so-far ∙ rw (next-is, lt-leb (w .value) top h) (high good (leb 1 (w .value)) (not (named (w .value) (literalsAt t (w .next))) && literalsGood top (literalsAt t (w .next))) (fresh g vs (literalOf w ∷ literalsAt t (w .next)))))
-            vs (s .long) (s .small)
+            (s .so-far ∙ rw (next-is, lt-leb (w .value) variables h) (high good (leb 1 (w .value)) (not (named (w .value) (literalsAt t (w .next))) && literalsGood variables (literalsAt t (w .next))) (fresh g vs (literalOf w ∷ literalsAt t (w .next)))))
+            vs (s .long) (s .during)
 
         -- a variable that has a value in this line
-        pub telling-twice : g ≤ getD vs (w .value) 0 → Telling g top t at (w .next) false vs
+        pub reading-twice : g ≤ getD vs (w .value) 0 → ReadingLiterals g variables t at (w .next) false vs
         unfolding fresh
-        telling-twice h =
+        reading-twice h =
             refused
-            (s .so-far ∙ rw (next-is, le-ltb (getD vs (w .value) 0) g h) (and-no good (literalsGood top (literalOf w ∷ literalsAt t (w .next))) (fresh g vs (literalsAt t (w .next)))))
-            vs (s .long) (s .small)
+            (s .so-far ∙ rw (next-is, le-ltb (getD vs (w .value) 0) g h) (and-no good (literalsGood variables (literalOf w ∷ literalsAt t (w .next))) (fresh g vs (literalsAt t (w .next)))))
+            vs (s .long) (s .during)
 
-        keep : (q a b c : Bool) → (q && ((a && b) && c)) ≡ (q && (b && (a && c)))
-        keep true true b c = refl
-        keep true false true c = refl
-        keep true false false c = refl
-        keep false a b c = refl
+        and-swap : (q a b c : Bool) → (q && ((a && b) && c)) ≡ (q && (b && (a && c)))
+        and-swap true true b c = refl
+        and-swap true false true c = refl
+        and-swap true false false c = refl
+        and-swap false a b c = refl
 
         -- a variable inside, with none yet
-        pub telling-more : w .value ≤ top → getD vs (w .value) 0 < g → w .minus ≤ 1 → Telling g top t at (w .next) good (set vs (w .value) (g + w .minus))
+        pub reading-more : w .value ≤ variables → getD vs (w .value) 0 < g → w .minus ≤ 1 → ReadingLiterals g variables t at (w .next) good (set vs (w .value) (g + w .minus))
         unfolding fresh
-        telling-more h o m =
+        reading-more h o m =
             let l : w .value < length vs = omega (arith, s .long) in
             let i : 1 ≤ w .value = omega (arith, more) in
             record {
               long = length-set vs (w .value) (g + w .minus) ∙ s .long;
-              small = set-small g vs (w .value) (g + w .minus) (omega arith) (s .small);
+              during = set-during g vs (w .value) (g + w .minus) (omega arith) (s .during);
               form = on;
               so-far = s .so-far ∙ rw (
                 next-is,
                 le-leb 1 (w .value) i,
-                le-leb (w .value) top h,
+                le-leb (w .value) variables h,
                 lt-ltb (getD vs (w .value) 0) g o,
                 fresh-set g vs (w .value) (g + w .minus) (omega arith) l (literalsAt t (w .next)),
               )
-                  (keep good (not (named (w .value) (literalsAt t (w .next)))) (literalsGood top (literalsAt t (w .next))) (fresh g vs (literalsAt t (w .next))));
+                  (and-swap good (not (named (w .value) (literalsAt t (w .next)))) (literalsGood variables (literalsAt t (w .next))) (fresh g vs (literalsAt t (w .next))));
               vals = λ e. s .vals e ∙ ap (falsified (valuesIn g vs)) next-is
                   ∙ ap (λ (τ : Values). falsified τ (literalsAt t (w .next))) (sym (set-false g vs (w .minus) (w .value) m l));
             }

@@ -17,7 +17,8 @@ use Rattle.lrat.specs.declared.Found.{Found}
 use Rattle.lrat.specs.declared.Found.the-variants.{AllFalse, Unset, Other}
 use Rattle.lrat.specs.Rules.{literalValue, minusOf, unsetBefore, before, found}
 use Rattle.lrat.specs.Words.{literal, literalOf}
-use Rattle.lrat.specs.Bytes.{valuesIn, side, valueOf, foundIn, Below, literalFrom, wordOf, storeFrom}
+use Rattle.lrat.specs.Bytes.{valuesIn, DuringLine, foundIn, Below, literalFrom, wordOf, storeFrom}
+use Rattle.lrat.specs.Bytes.Laws.{value-unset, value-false, value-true}
 
 -- ---- from the left: what was found so far, and the rest
 abbrev pub joined : Found → Found → Found
@@ -28,22 +29,22 @@ joined (Unset v m) Other = Other
 joined Other f = Other
 
 -- no literal was unset where var is 0, else that of var
-unfoldable pub sofar : ℕ → ℕ → Found
-sofar zero m = AllFalse
-sofar (suc v) m = Unset (suc v) m
+unfoldable pub foundSoFar : ℕ → ℕ → Found
+foundSoFar zero m = AllFalse
+foundSoFar (suc v) m = Unset (suc v) m
 
-sofar-some : (v m : ℕ) → (v ≡ 0 → ⊥) → sofar v m ≡ Unset v m
-unfolding sofar
-sofar-some zero m d = absurd (d refl)
-sofar-some (suc v) m d = refl
+found-so-far-some : (v m : ℕ) → (v ≡ 0 → ⊥) → foundSoFar v m ≡ Unset v m
+unfolding foundSoFar
+found-so-far-some zero m d = absurd (d refl)
+found-so-far-some (suc v) m d = refl
 
-pub sofar-none : (v m : ℕ) → v ≡ 0 → AllFalse ≡ sofar v m
-unfolding sofar
-sofar-none zero m e = refl
-sofar-none (suc v) m e = absurd (omega arith)
+pub found-so-far-none : (v m : ℕ) → v ≡ 0 → AllFalse ≡ foundSoFar v m
+unfolding foundSoFar
+found-so-far-none zero m e = refl
+found-so-far-none (suc v) m e = absurd (omega arith)
 
-pub sofar-unset : (v m : ℕ) → (v ≡ 0 → ⊥) → Unset v m ≡ sofar v m
-sofar-unset v m d = sym (sofar-some v m d)
+pub found-so-far-unset : (v m : ℕ) → (v ≡ 0 → ⊥) → Unset v m ≡ foundSoFar v m
+found-so-far-unset v m d = sym (found-so-far-some v m d)
 
 joined-end : (f : Found) → joined f AllFalse ≡ f
 joined-end AllFalse = refl
@@ -71,38 +72,23 @@ joined-second v m l AllFalse = refl
 joined-second v m l (Unset w k) = refl
 joined-second v m l Other = refl
 
-side-false : (o : Option Bool) (l : Literal) (f : Found) → 1 ≡ side o → before o l f ≡ f
-side-false none l f e = absurd (omega arith)
-side-false (some false) l f e = refl
-side-false (some true) l f e = absurd (omega arith)
-
-side-true : (o : Option Bool) (l : Literal) (f : Found) → 2 ≡ side o → before o l f ≡ Other
-side-true none l f e = absurd (omega arith)
-side-true (some false) l f e = absurd (omega arith)
-side-true (some true) l f e = refl
-
-side-none : (o : Option Bool) (l : Literal) (f : Found) → 0 ≡ side o → before o l f ≡ unsetBefore l f
-side-none none l f e = refl
-side-none (some false) l f e = absurd (omega arith)
-side-none (some true) l f e = absurd (omega arith)
-
 -- ---- a scan under way: what was found of the whole clause by what was found so far and its rest
 pub record Scanning (g : ℕ) (vs : List ℕ) (whole : Clause) (var m : ℕ) (rest : Clause) : Type 0 where
-  pub so-far : found (valuesIn g vs) whole ≡ joined (sofar var m) (found (valuesIn g vs) rest)
+  pub so-far : found (valuesIn g vs) whole ≡ joined (foundSoFar var m) (found (valuesIn g vs) rest)
   pub below : Below (length vs) rest
 
 pub scan-start : {g : ℕ} {vs : List ℕ} {c : Clause} → Below (length vs) c → Scanning g vs c 0 0 c
-unfolding sofar
+unfolding foundSoFar
 scan-start b = record { so-far = refl; below = b }
 
 module _ {g : ℕ} {vs : List ℕ} {whole : Clause} {var m : ℕ} {rest : Clause} (s : Scanning g vs whole var m rest) where
-  pub scan-end : rest ≡ [] → sofar var m ≡ foundIn g vs whole
+  pub scan-end : rest ≡ [] → foundSoFar var m ≡ foundIn g vs whole
   unfolding foundIn
-  scan-end e = sym (s .so-far ∙ ap (λ (r : Clause). joined (sofar var m) (found (valuesIn g vs) r)) e ∙ joined-end (sofar var m))
+  scan-end e = sym (s .so-far ∙ ap (λ (r : Clause). joined (foundSoFar var m) (found (valuesIn g vs) r)) e ∙ joined-end (foundSoFar var m))
 
   module _ (k v : ℕ) {ls : Clause} (step : rest ≡ literal k v ∷ ls) where
-    turn : found (valuesIn g vs) whole ≡ joined (sofar var m) (before (literalValue (valuesIn g vs) (literal k v)) (literal k v) (found (valuesIn g vs) ls))
-    turn = s .so-far ∙ ap (λ (r : Clause). joined (sofar var m) (found (valuesIn g vs) r)) step
+    turn : found (valuesIn g vs) whole ≡ joined (foundSoFar var m) (before (literalValue (valuesIn g vs) (literal k v)) (literal k v) (found (valuesIn g vs) ls))
+    turn = s .so-far ∙ ap (λ (r : Clause). joined (foundSoFar var m) (found (valuesIn g vs) r)) step
 
     below-rest : Below (length vs) (literal k v ∷ ls)
     below-rest = subst (Below (length vs)) step (s .below)
@@ -113,35 +99,37 @@ module _ {g : ℕ} {vs : List ℕ} {whole : Clause} {var m : ℕ} {rest : Clause
     pub scan-named : v ≡ 0 → ⊥
     scan-named e = omega (arith, below-rest .0 .0)
 
-    pub scan-false : 1 ≡ valueOf g vs k v → Scanning g vs whole var m ls
-    unfolding valueOf
-    scan-false e =
-        record {
-          so-far = turn ∙ ap (joined (sofar var m)) (side-false (literalValue (valuesIn g vs) (literal k v)) (literal k v) (found (valuesIn g vs) ls) e);
-          below = below-rest .1;
-        }
+    -- the literal's value is o
+    turn-to : (o : Option Bool) → literalValue (valuesIn g vs) (literal k v) ≡ o
+        → found (valuesIn g vs) whole ≡ joined (foundSoFar var m) (before o (literal k v) (found (valuesIn g vs) ls))
+    turn-to o e = turn ∙ ap (λ (x : Option Bool). joined (foundSoFar var m) (before x (literal k v) (found (valuesIn g vs) ls))) e
 
-    pub scan-true : 2 ≡ valueOf g vs k v → Other ≡ foundIn g vs whole
-    unfolding valueOf foundIn
-    scan-true e =
-        sym (turn ∙ ap (joined (sofar var m)) (side-true (literalValue (valuesIn g vs) (literal k v)) (literal k v) (found (valuesIn g vs) ls) e)
-        ∙ joined-other (sofar var m))
+    module _ (sign : k ≤ 1) where
+      -- its byte is that of a false literal
+      pub scan-false : getD vs v 0 ≡ g + k → Scanning g vs whole var m ls
+      scan-false e = record { so-far = turn-to (some false) (value-false g vs k v sign e); below = below-rest .1 }
 
-    pub scan-second : 0 ≡ valueOf g vs k v → (var ≡ 0 → ⊥) → Other ≡ foundIn g vs whole
-    unfolding valueOf foundIn
-    scan-second e d =
-        sym (turn ∙ ap (joined (sofar var m)) (side-none (literalValue (valuesIn g vs) (literal k v)) (literal k v) (found (valuesIn g vs) ls) e)
-        ∙ ap (λ (x : Found). joined x (unsetBefore (literal k v) (found (valuesIn g vs) ls))) (sofar-some var m d)
+      -- that of a true one
+      pub scan-true : (getD vs v 0 ≡ g + k → ⊥) → g ≤ getD vs v 0 → DuringLine g vs → Other ≡ foundIn g vs whole
+      unfolding foundIn
+      scan-true d h during = sym (turn-to (some true) (value-true g vs k v sign d h (during .most v)) ∙ joined-other (foundSoFar var m))
+
+    -- that of an unset one
+    pub scan-second : getD vs v 0 < g → (var ≡ 0 → ⊥) → Other ≡ foundIn g vs whole
+    unfolding foundIn
+    scan-second h d =
+        sym (turn-to none (value-unset g vs k v h)
+        ∙ ap (λ (x : Found). joined x (unsetBefore (literal k v) (found (valuesIn g vs) ls))) (found-so-far-some var m d)
         ∙ joined-second var m (literal k v) (found (valuesIn g vs) ls))
 
-    pub scan-first : 0 ≡ valueOf g vs k v → var ≡ 0 → k ≤ 1 → (v ≡ 0 → ⊥) → Scanning g vs whole v k ls
-    unfolding valueOf sofar
+    pub scan-first : getD vs v 0 < g → var ≡ 0 → k ≤ 1 → (v ≡ 0 → ⊥) → Scanning g vs whole v k ls
+    unfolding foundSoFar
     scan-first e z h d =
         record {
-          so-far = turn ∙ ap (joined (sofar var m)) (side-none (literalValue (valuesIn g vs) (literal k v)) (literal k v) (found (valuesIn g vs) ls) e)
-              ∙ ap (λ (n : ℕ). joined (sofar n m) (unsetBefore (literal k v) (found (valuesIn g vs) ls))) z
+          so-far = turn-to none (value-unset g vs k v e)
+              ∙ ap (λ (n : ℕ). joined (foundSoFar n m) (unsetBefore (literal k v) (found (valuesIn g vs) ls))) z
               ∙ joined-first k v (found (valuesIn g vs) ls) h
-              ∙ ap (λ (x : Found). joined x (found (valuesIn g vs) ls)) (sym (sofar-some v k d));
+              ∙ ap (λ (x : Found). joined x (found (valuesIn g vs) ls)) (sym (found-so-far-some v k d));
           below = below-rest .1;
         }
 
@@ -153,7 +141,7 @@ sign-back false = refl
 literal-from : (x : ℤ) → literalFrom x ≡ literal (minusOf (isNegative x)) (variable x)
 literal-from x = ap (λ (b : Bool). let l : Literal = record { variable = variable x; negative = b } in l) (sym (sign-back (isNegative x)))
 
-minus-most : (b : Bool) → minusOf b ≤ 1
+pub minus-most : (b : Bool) → minusOf b ≤ 1
 minus-most true = omega arith
 minus-most false = omega arith
 

@@ -9,7 +9,7 @@ use native.Mathlib.Omega.{arith}
 use lib.Dec.{T, eqb, leb, ltb}
 use lib.ListN.{length, getD, set, length-set}
 use lib.Seq.{getD-set-same, getD-set-other}
-use borrow.Author.Tests.{eq-eqb, ne-eqb, le-leb, lt-leb, lt-ltb}
+use borrow.Author.Tests.{ltb-false, eq-eqb, ne-eqb, le-leb, lt-leb}
 use Rattle.prelude.specs.Tests.{eq?, le?}
 use Rattle.cnf.specs.Cnf.{Assignment, Clause, Formula, clauseHolds, Satisfiable}
 use Rattle.cnf.specs.Cnf.Laws.{sat-at}
@@ -20,10 +20,10 @@ use Rattle.lrat.specs.State.{standsIn, clauseAt, hintsOf, deleted, witho
 use Rattle.lrat.specs.State.Laws.{stands-original, stands-added, stands-inside, stands-long, stands-named}
 use Rattle.lrat.specs.Check.{Left, left, stop, isEmpty, pushed, concluded, addStep, deleteStep, stepOf, lineStep, onLeft, linesFrom, linesOf}
 
-module _ (F : Formula) (t : List ℕ) (top : ℕ) (α : Assignment) where
+module _ (F : Formula) (t : List ℕ) (variables : ℕ) (α : Assignment) where
   -- α makes every clause that stands true
-  abbrev Good : ℕ → List ℕ → Type 0
-  Good a added = Models α (standsIn (length F) a added) (clauseAt F t added)
+  abbrev ModelOf : ℕ → List ℕ → Type 0
+  ModelOf a added = Models α (standsIn (length F) a added) (clauseAt F t added)
 
   -- an original clause, and an added one, by their ids
   of-formula : (added : List ℕ) (x : ℕ) → x ≤ length F → clauseAt F t added x ≡ getD F (x - 1) []
@@ -35,18 +35,18 @@ module _ (F : Formula) (t : List ℕ) (top : ℕ) (α : Assignment) where
   of-text added x h = rw (lt-leb x (length F) h)
 
   -- where the pairs of two slices agree, a clause of the second holds as that of the first
-  same-good : (a : ℕ) (l m : List ℕ) → Good a l → (x : ℕ) → (length F < x → getD m (2 * (x - length F - 1)) 0 ≡ getD l (2 * (x - length F - 1)) 0)
+  same-models : (a : ℕ) (l m : List ℕ) → ModelOf a l → (x : ℕ) → (length F < x → getD m (2 * (x - length F - 1)) 0 ≡ getD l (2 * (x - length F - 1)) 0)
       → true ≡ standsIn (length F) a l x → T (clauseHolds α (clauseAt F t m x))
-  same-good a l m g x e s = subst (λ (c : Clause). T (clauseHolds α c)) (sym (go (le? x (length F)))) (g x (sym s))
+  same-models a l m g x e s = subst (λ (c : Clause). T (clauseHolds α c)) (sym (go (le? x (length F)))) (g x (sym s))
     where
       go : (x ≤ length F) ⊎ (length F < x) → clauseAt F t m x ≡ clauseAt F t l x
       go (inl h) = of-formula m x h ∙ sym (of-formula l x h)
       go (inr h) = of-text m x h ∙ ap (λ (o : ℕ). literalsAt t (o - 1)) (e h) ∙ sym (of-text l x h)
 
   -- a deletion leaves what stands true
-  without-good : (a : ℕ) (added : List ℕ) (y : ℕ) → 2 * a ≤ length added → Good a added → true ≡ standsIn (length F) a added y → Good a (without (length F) added y)
+  without-models : (a : ℕ) (added : List ℕ) (y : ℕ) → 2 * a ≤ length added → ModelOf a added → true ≡ standsIn (length F) a added y → ModelOf a (without (length F) added y)
   unfolding without
-  without-good a added y long g s = go (le? y (length F))
+  without-models a added y long g s = go (le? y (length F))
     where
       i : ℕ
       i = 2 * (y - length F - 1) + 1
@@ -65,40 +65,40 @@ module _ (F : Formula) (t : List ℕ) (top : ℕ) (α : Assignment) where
               ∙ getD-set-same added i 0 0 (let m = stands-inside (length F) a added y s h in omega arith)
           at-zero h x z (inr q) = getD-set-other added i (2 * (x - length F - 1) + 1) 0 0 q ∙ z
 
-      go : (y ≤ length F) ⊎ (length F < y) → Good a (cond (leb y (length F)) added (set added i 0))
+      go : (y ≤ length F) ⊎ (length F < y) → ModelOf a (cond (leb y (length F)) added (set added i 0))
       go (inl h) = rw (le-leb y (length F) h) g
       go (inr h) =
           rw (lt-leb y (length F) h)
-          (λ x e. same-good a added (set added i 0) g x (λ k. getD-set-other added i (2 * (x - length F - 1)) 0 0 (λ q. omega arith)) (stood h x (sym e)))
+          (λ x e. same-models a added (set added i 0) g x (λ k. getD-set-other added i (2 * (x - length F - 1)) 0 0 (λ q. omega arith)) (stood h x (sym e)))
 
-  -- what a step keeps: the pairs are inside their slice, and α makes every clause that stands true
-  pub record Kept (a : ℕ) (added : List ℕ) : Type 0 where
+  -- before and after each step: the pairs are inside their slice, and α makes every clause that stands true
+  pub record Modelled (a : ℕ) (added : List ℕ) : Type 0 where
     pub long : 2 * a ≤ length added
-    pub good : Good a added
+    pub models : ModelOf a added
 
   without-long : (added : List ℕ) (y : ℕ) → length (without (length F) added y) ≡ length added
   unfolding without
   without-long added y =
       ⊎-elim (λ (h : y ≤ length F). rw (le-leb y (length F) h)) (λ (h : length F < y). rw (lt-leb y (length F) h) (length-set added (2 * (y - length F - 1) + 1) 0)) (le? y (length F))
 
-  deleted-kept : (a : ℕ) (ys added : List ℕ) → Kept a added → Kept a (deleteAll (length F) a added ys .added)
+  deleted-modelled : (a : ℕ) (ys added : List ℕ) → Modelled a added → Modelled a (deleteAll (length F) a added ys .added)
   unfolding deleteAll
-  deleted-kept a [] added k = k
-  deleted-kept a (y ∷ ys) added k = go (standsIn (length F) a added y) refl (deleted-kept a ys (without (length F) added y))
+  deleted-modelled a [] added k = k
+  deleted-modelled a (y ∷ ys) added k = go (standsIn (length F) a added y) refl (deleted-modelled a ys (without (length F) added y))
     where
       go : (b : Bool) → standsIn (length F) a added y ≡ b
-          → (Kept a (without (length F) added y) → Kept a (deleteAll (length F) a (without (length F) added y) ys .added))
-          → Kept a (cond b (deleteAll (length F) a (without (length F) added y) ys) (deleted 19 added) .added)
-      go true e rest = rest (record { long = rw (without-long added y) (k .long); good = without-good a added y (k .long) (k .good) (sym e) })
+          → (Modelled a (without (length F) added y) → Modelled a (deleteAll (length F) a (without (length F) added y) ys .added))
+          → Modelled a (cond b (deleteAll (length F) a (without (length F) added y) ys) (deleted 19 added) .added)
+      go true e rest = rest (record { long = rw (without-long added y) (k .long); models = without-models a added y (k .long) (k .models) (sym e) })
       go false e rest = k
 
   -- a clause that follows may be added
-  pushed-kept : (a : ℕ) (added : List ℕ) (at end : ℕ) → 2 * a + 2 ≤ length added → Kept a added → T (clauseHolds α (literalsAt t at))
-      → Kept (a + 1) (pushed added a at end)
-  pushed-kept a added at end h k holds =
+  pushed-modelled : (a : ℕ) (added : List ℕ) (at end : ℕ) → 2 * a + 2 ≤ length added → Modelled a added → T (clauseHolds α (literalsAt t at))
+      → Modelled (a + 1) (pushed added a at end)
+  pushed-modelled a added at end h k holds =
       record {
         long = rw (length-set (set added (2 * a) (at + 1)) (2 * a + 1) (end - (at + 1)), length-set added (2 * a) (at + 1)) (omega arith);
-        good = λ x e. go x (sym e) (eq? (x - length F - 1) a) (le? x (length F));
+        models = λ x e. go x (sym e) (eq? (x - length F - 1) a) (le? x (length F));
       }
     where
       new : List ℕ
@@ -121,23 +121,23 @@ module _ (F : Formula) (t : List ℕ) (top : ℕ) (α : Assignment) where
 
       go : (x : ℕ) → true ≡ standsIn (length F) (a + 1) new x → (x - length F - 1 ≡ a) ⊎ (x - length F - 1 ≡ a → ⊥) → (x ≤ length F) ⊎ (length F < x)
           → T (clauseHolds α (clauseAt F t new x))
-      go x s q (inl l) = same-good a added new (k .good) x (λ m. absurd (omega arith)) (stands-original (length F) a added x (stands-named (length F) (a + 1) new x s) l)
+      go x s q (inl l) = same-models a added new (k .models) x (λ m. absurd (omega arith)) (stands-original (length F) a added x (stands-named (length F) (a + 1) new x s) l)
       go x s (inl q) (inr l) =
           subst (λ (c : Clause). T (clauseHolds α c))
           (sym (of-text new x l ∙ ap (λ (j : ℕ). literalsAt t (getD new (2 * j) 0 - 1)) q ∙ ap (literalsAt t) (let z : getD new (2 * a) 0 - 1 ≡ at = omega (arith, last) in z)))
           holds
       go x s (inr q) (inr l) =
           let i = stands-inside (length F) (a + 1) new x s l in
-          same-good a added new (k .good) x (λ m. offset (x - length F - 1) q)
+          same-models a added new (k .models) x (λ m. offset (x - length F - 1) q)
           (stands-added (length F) a added x l (omega arith) (λ z. stands-long (length F) (a + 1) new x s l (size (x - length F - 1) q ∙ z)))
 
-  -- what a line leaves: not "none", and where the check goes on, what a step keeps
+  -- what a line leaves: not "none", and where the check goes on, α is a model still
   pub record Says (l : Left) : Type 0 where
     pub not-none : l .code ≡ 1 → ⊥
-    pub kept : l .code ≡ 0 → Kept (l .a) (l .added)
+    pub modelled : l .code ≡ 0 → Modelled (l .a) (l .added)
 
   refused : (k a : ℕ) (added : List ℕ) → (k ≡ 0 → ⊥) → (k ≡ 1 → ⊥) → Says (stop k a added)
-  refused k a added d e = record { not-none = e; kept = λ z. absurd (d z) }
+  refused k a added d e = record { not-none = e; modelled = λ z. absurd (d z) }
 
   -- the empty clause has no literal that could hold
   empty-none : (c : Clause) → isEmpty c ≡ true → T (clauseHolds α c) → ⊥
@@ -159,7 +159,7 @@ module _ (F : Formula) (t : List ℕ) (top : ℕ) (α : Assignment) where
   unfolding hintsOf
   hints-not-one a added τ p = hinted-not-one (standsIn (length F) a added) (clauseAt F t added) (idsAt t p) τ
 
-  concluded-says : (a : ℕ) (added : List ℕ) (at end hints next : ℕ) → Kept a added
+  concluded-says : (a : ℕ) (added : List ℕ) (at end hints next : ℕ) → Modelled a added
       → (b : Bool) → isEmpty (literalsAt t at) ≡ b → (not b && ltb (length added) (2 * a + 2)) ≡ false
       → Says (concluded (hintsOf F t a added (falsified unset (literalsAt t at)) hints) b a added at end next)
   unfolding concluded hintsOf
@@ -169,25 +169,23 @@ module _ (F : Formula) (t : List ℕ) (top : ℕ) (α : Assignment) where
       h = hintsOf F t a added (falsified unset (literalsAt t at)) hints
 
       holds : h ≡ 0 → T (clauseHolds α (literalsAt t at))
-      holds e = hinted-sound α (standsIn (length F) a added) (clauseAt F t added) (k .good) (literalsAt t at) (idsAt t hints) e
+      holds e = hinted-sound α (standsIn (length F) a added) (clauseAt F t added) (k .models) (literalsAt t at) (idsAt t hints) e
 
       long : ltb (length added) (2 * a + 2) ≡ false → 2 * a + 2 ≤ length added
-      long e = ⊎-elim (λ (y : 2 * a + 2 ≤ length added). y)
-          (λ (y : length added < 2 * a + 2). absurd (let u : _≡_ {A = Bool} true false = sym (lt-ltb (length added) (2 * a + 2) y) ∙ e in let v : _≡_ {A = ℕ} 0 1 = cc in omega arith))
-          (le? (2 * a + 2) (length added))
+      long = ltb-false (length added) (2 * a + 2)
 
       go : (h ≡ 0) ⊎ (h ≡ 0 → ⊥) → (b : Bool) → isEmpty (literalsAt t at) ≡ b → (not b && ltb (length added) (2 * a + 2)) ≡ false
           → Says (cond (eqb h 0) (cond b (stop 1 a added) (left 0 (a + 1) next (pushed added a at end))) (stop h a added))
       go (inl e) true z room = absurd (empty-none (literalsAt t at) z (holds e))
       go (inl e) false z room =
-          rw (eq-eqb h 0 e) (record { not-none = λ y. omega arith; kept = λ _. pushed-kept a added at end (long room) k (holds e) })
+          rw (eq-eqb h 0 e) (record { not-none = λ y. omega arith; modelled = λ _. pushed-modelled a added at end (long room) k (holds e) })
       go (inr d) b z room = rw (ne-eqb h 0 d) (refused h a added d (hints-not-one a added (falsified unset (literalsAt t at)) hints))
 
-  step-says : (a : ℕ) (added : List ℕ) (l : Line) → Kept a added → Says (stepOf F t top a added l)
+  step-says : (a : ℕ) (added : List ℕ) (l : Line) → Modelled a added → Says (stepOf F t variables a added l)
   unfolding stepOf addStep deleteStep
   step-says a added noLine k = refused 16 a added (λ e. omega arith) (λ e. omega arith)
   step-says a added (deletion at next) k =
-      record { not-none = deleted-not-one a (idsAt t at) added; kept = λ _. deleted-kept a (idsAt t at) added k }
+      record { not-none = deleted-not-one a (idsAt t at) added; modelled = λ _. deleted-modelled a (idsAt t at) added k }
   step-says a added (addition id at end hints next) k =
       by-id (eqb id (length F + a + 1))
     where
@@ -201,40 +199,40 @@ module _ (F : Formula) (t : List ℕ) (top : ℕ) (α : Assignment) where
       lits true = place (not (isEmpty (literalsAt t at)) && ltb (length added) (2 * a + 2)) refl
       lits false = refused 18 a added (λ y. omega arith) (λ y. omega arith)
 
-      by-id : (b : Bool) → Says (cond b (cond (literalsGood top (literalsAt t at)) (cond (not (isEmpty (literalsAt t at)) && ltb (length added) (2 * a + 2)) (stop 22 a added)
+      by-id : (b : Bool) → Says (cond b (cond (literalsGood variables (literalsAt t at)) (cond (not (isEmpty (literalsAt t at)) && ltb (length added) (2 * a + 2)) (stop 22 a added)
           (concluded (hintsOf F t a added (falsified unset (literalsAt t at)) hints) (isEmpty (literalsAt t at)) a added at end next)) (stop 18 a added)) (stop 17 a added))
-      by-id true = lits (literalsGood top (literalsAt t at))
+      by-id true = lits (literalsGood variables (literalsAt t at))
       by-id false = refused 17 a added (λ y. omega arith) (λ y. omega arith)
 
   -- no line of a text says "none", then
-  lines-say : (f a : ℕ) (added : List ℕ) (p : ℕ) → Kept a added → linesFrom f F t top a added p .code ≡ 1 → ⊥
+  lines-say : (f a : ℕ) (added : List ℕ) (p : ℕ) → Modelled a added → linesFrom f F t variables a added p .code ≡ 1 → ⊥
   unfolding linesFrom lineStep
   lines-say zero a added p k e = omega arith
   lines-say (suc f) a added p k e = go (ltb p (length t)) (step-says a added (lineAt t p) k) (λ b l q w. lines-say f b l q w) e
     where
-      on : (l : Left) → Says l → ((b : ℕ) (m : List ℕ) (q : ℕ) → Kept b m → linesFrom f F t top b m q .code ≡ 1 → ⊥)
-          → (l .code ≡ 0) ⊎ (l .code ≡ 0 → ⊥) → onLeft l (λ b m q. linesFrom f F t top b m q) .code ≡ 1 → ⊥
-      on l s rest (inl z) x = rest (l .a) (l .added) (l .next) (s .kept z) (rw (eq-eqb (l .code) 0 z) at x)
+      on : (l : Left) → Says l → ((b : ℕ) (m : List ℕ) (q : ℕ) → Modelled b m → linesFrom f F t variables b m q .code ≡ 1 → ⊥)
+          → (l .code ≡ 0) ⊎ (l .code ≡ 0 → ⊥) → onLeft l (λ b m q. linesFrom f F t variables b m q) .code ≡ 1 → ⊥
+      on l s rest (inl z) x = rest (l .a) (l .added) (l .next) (s .modelled z) (rw (eq-eqb (l .code) 0 z) at x)
       on l s rest (inr d) x = s .not-none (rw (ne-eqb (l .code) 0 d) at x)
 
-      go : (b : Bool) → Says (stepOf F t top a added (lineAt t p)) → ((b : ℕ) (m : List ℕ) (q : ℕ) → Kept b m → linesFrom f F t top b m q .code ≡ 1 → ⊥)
-          → cond b (onLeft (stepOf F t top a added (lineAt t p)) (λ b l q. linesFrom f F t top b l q)) (stop 23 a added) .code ≡ 1 → ⊥
-      go true s rest x = on (stepOf F t top a added (lineAt t p)) s rest (eq? (stepOf F t top a added (lineAt t p) .code) 0) x
+      go : (b : Bool) → Says (stepOf F t variables a added (lineAt t p)) → ((b : ℕ) (m : List ℕ) (q : ℕ) → Modelled b m → linesFrom f F t variables b m q .code ≡ 1 → ⊥)
+          → cond b (onLeft (stepOf F t variables a added (lineAt t p)) (λ b l q. linesFrom f F t variables b l q)) (stop 23 a added) .code ≡ 1 → ⊥
+      go true s rest x = on (stepOf F t variables a added (lineAt t p)) s rest (eq? (stepOf F t variables a added (lineAt t p) .code) 0) x
       go false s rest x = omega arith
 
 -- "none" means that the formula is unsatisfiable
-pub none-sound : (F : Formula) (t : List ℕ) (top : ℕ) (added : List ℕ) → linesOf F t top added .code ≡ 1 → Satisfiable F → ⊥
+pub none-sound : (F : Formula) (t : List ℕ) (variables : ℕ) (added : List ℕ) → linesOf F t variables added .code ≡ 1 → Satisfiable F → ⊥
 unfolding linesOf
-none-sound F t top added e s =
-    lines-say F t top (s .0) (length t) 0 added 0
+none-sound F t variables added e s =
+    lines-say F t variables (s .0) (length t) 0 added 0
     (record {
       long = omega arith;
-      good = λ x z. start x (sym z) (le? x (length F));
+      models = λ x z. start x (sym z) (le? x (length F));
     })
     e
   where
     start : (x : ℕ) → true ≡ standsIn (length F) 0 added x → (x ≤ length F) ⊎ (length F < x) → T (clauseHolds (s .0) (clauseAt F t added x))
     start x z (inl h) =
-        subst (λ (c : Clause). T (clauseHolds (s .0) c)) (sym (of-formula F t top (s .0) added x h))
+        subst (λ (c : Clause). T (clauseHolds (s .0) c)) (sym (of-formula F t variables (s .0) added x h))
         (sat-at (s .0) F (s .1) (x - 1) (let l = stands-named (length F) 0 added x z in omega arith))
     start x z (inr h) = absurd (let l = stands-inside (length F) 0 added x z h in omega arith)

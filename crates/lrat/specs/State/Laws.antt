@@ -15,100 +15,97 @@ use Rattle.prelude.specs.Lists.Laws.{length-tab, getD-tab}
 use Rattle.cnf.specs.Cnf.{Clause, Formula}
 use Rattle.numeral.specs.declared.Word.{Word}
 use Rattle.numeral.specs.Number.{byteAt}
-use Rattle.lrat.specs.declared.Ended.{Ended}
+use Rattle.lrat.specs.declared.HintsRead.{HintsRead}
 use Rattle.lrat.specs.declared.Found.{Found}
 use Rattle.lrat.specs.declared.Found.the-variants.{AllFalse, Unset, Other}
 use Rattle.lrat.specs.Rules.{Values, assign, literalValue, minusOf, before, found, afterFound, hinted}
 use Rattle.lrat.specs.Words.{plainAt, literalsAt, idsAt, Run, run, runAt}
 use Rattle.lrat.specs.Words.Laws.{plain-reads, ids-none, ids-more, run-unspaced, run-wordless, run-last, run-more}
-use Rattle.lrat.specs.Bytes.{valuesIn, Small, foundIn, Below, storedClause, storeFrom, held}
-use Rattle.lrat.specs.Bytes.Laws.{set-true, set-small}
-use Rattle.lrat.specs.State.{standsIn, clauseAt, hintsOf, deleted, without, deleteAll, Holds, Fit, Hint, Hints}
+use Rattle.lrat.specs.Bytes.{valuesIn, DuringLine, foundIn, Below, storedClause, storeFrom, formulaIn}
+use Rattle.lrat.specs.Bytes.Laws.{set-true, set-during}
+use Rattle.lrat.specs.Bytes.Scan.{minus-most}
+use Rattle.lrat.specs.State.{standsIn, clauseAt, hintsOf, deleted, without, deleteAll, OriginalsInStore, AddedInText, AfterHint, AfterHints}
 
 -- ---- whether a clause stands, by its tests
-module _ (c a : ℕ) (added : List ℕ) (x : ℕ) where
-  pub stands-original : 1 ≤ x → x ≤ c → true ≡ standsIn c a added x
+module _ (C a : ℕ) (added : List ℕ) (x : ℕ) where
+  pub stands-original : 1 ≤ x → x ≤ C → true ≡ standsIn C a added x
   unfolding standsIn
-  stands-original l h = rw (le-leb x c h, le-leb 1 x l)
+  stands-original l h = rw (le-leb x C h, le-leb 1 x l)
 
-  pub stands-past : c < x → a ≤ x - c - 1 → false ≡ standsIn c a added x
+  pub stands-past : C < x → a ≤ x - C - 1 → false ≡ standsIn C a added x
   unfolding standsIn
-  stands-past l h = rw (lt-leb x c l, le-ltb (x - c - 1) a h)
+  stands-past l h = rw (lt-leb x C l, le-ltb (x - C - 1) a h)
 
-  pub stands-deleted : c < x → x - c - 1 < a → getD added (2 * (x - c - 1) + 1) 0 ≡ 0 → false ≡ standsIn c a added x
+  pub stands-deleted : C < x → x - C - 1 < a → getD added (2 * (x - C - 1) + 1) 0 ≡ 0 → false ≡ standsIn C a added x
   unfolding standsIn
-  stands-deleted l h e = rw (lt-leb x c l, lt-ltb (x - c - 1) a h, eq-eqb (getD added (2 * (x - c - 1) + 1) 0) 0 e)
+  stands-deleted l h e = rw (lt-leb x C l, lt-ltb (x - C - 1) a h, eq-eqb (getD added (2 * (x - C - 1) + 1) 0) 0 e)
 
-  pub stands-added : c < x → x - c - 1 < a → (getD added (2 * (x - c - 1) + 1) 0 ≡ 0 → ⊥) → true ≡ standsIn c a added x
+  pub stands-added : C < x → x - C - 1 < a → (getD added (2 * (x - C - 1) + 1) 0 ≡ 0 → ⊥) → true ≡ standsIn C a added x
   unfolding standsIn
-  stands-added l h d = rw (lt-leb x c l, lt-ltb (x - c - 1) a h, ne-eqb (getD added (2 * (x - c - 1) + 1) 0) 0 d)
+  stands-added l h d = rw (lt-leb x C l, lt-ltb (x - C - 1) a h, ne-eqb (getD added (2 * (x - C - 1) + 1) 0) 0 d)
 
-  no-both : {A : Type 0} → true ≡ standsIn c a added x → false ≡ standsIn c a added x → A
+  no-both : {A : Type 0} → true ≡ standsIn C a added x → false ≡ standsIn C a added x → A
   no-both e f = absurd (let z : _≡_ {A = ℕ} 0 1 = cc in omega arith)
 
   -- an added clause that stands has a pair, of some length
-  pub stands-inside : true ≡ standsIn c a added x → c < x → x - c - 1 < a
-  stands-inside e h = ⊎-elim (λ (l : a ≤ x - c - 1). no-both e (stands-past h l)) (λ (l : x - c - 1 < a). l) (le? a (x - c - 1))
+  pub stands-inside : true ≡ standsIn C a added x → C < x → x - C - 1 < a
+  stands-inside e h = ⊎-elim (λ (l : a ≤ x - C - 1). no-both e (stands-past h l)) (λ (l : x - C - 1 < a). l) (le? a (x - C - 1))
 
-  pub stands-long : true ≡ standsIn c a added x → c < x → getD added (2 * (x - c - 1) + 1) 0 ≡ 0 → ⊥
+  pub stands-long : true ≡ standsIn C a added x → C < x → getD added (2 * (x - C - 1) + 1) 0 ≡ 0 → ⊥
   stands-long e h z = no-both e (stands-deleted h (stands-inside e h) z)
 
-  pub stands-named : true ≡ standsIn c a added x → 1 ≤ x
+  pub stands-named : true ≡ standsIn C a added x → 1 ≤ x
   unfolding standsIn
-  stands-named e = ⊎-elim (λ (l : 1 ≤ x). l) (λ (l : x < 1). none l (rw (lt-leb 1 x l, le-leb x c (let z : x ≤ c = omega arith in z)) at e)) (le? 1 x)
+  stands-named e = ⊎-elim (λ (l : 1 ≤ x). l) (λ (l : x < 1). none l (rw (lt-leb 1 x l, le-leb x C (let z : x ≤ C = omega arith in z)) at e)) (le? 1 x)
     where
       none : {A : Type 0} → x < 1 → true ≡ false → A
       none l z = absurd (let w : _≡_ {A = ℕ} 0 1 = cc in omega arith)
 
 -- ---- the store's clauses as a formula
-pub held-length : (c : ℕ) (lits : List ℤ) (pairs : List ℕ) → length (held c lits pairs) ≡ c
-unfolding held
-held-length c lits pairs = length-tab 0 c (storedClause lits pairs)
+pub formula-in-length : (C : ℕ) (lits : List ℤ) (pairs : List ℕ) → length (formulaIn C lits pairs) ≡ C
+unfolding formulaIn
+formula-in-length C lits pairs = length-tab 0 C (storedClause lits pairs)
 
-pub clause-original : (c : ℕ) (lits : List ℤ) (pairs t added : List ℕ) (x : ℕ) → 1 ≤ x → x ≤ c
-    → clauseAt (held c lits pairs) t added x ≡ storedClause lits pairs (x - 1)
-unfolding clauseAt held
-clause-original c lits pairs t added x l h =
-    rw (length-tab 0 c (storedClause lits pairs), le-leb x c h) (getD-tab 0 c (storedClause lits pairs) (x - 1) [] (omega arith) ∙ ap (storedClause lits pairs) (let z : 0 + (x - 1) ≡ x - 1 = omega arith in z))
+pub clause-original : (C : ℕ) (lits : List ℤ) (pairs t added : List ℕ) (x : ℕ) → 1 ≤ x → x ≤ C
+    → clauseAt (formulaIn C lits pairs) t added x ≡ storedClause lits pairs (x - 1)
+unfolding clauseAt formulaIn
+clause-original C lits pairs t added x l h =
+    rw (length-tab 0 C (storedClause lits pairs), le-leb x C h) (getD-tab 0 C (storedClause lits pairs) (x - 1) [] (omega arith) ∙ ap (storedClause lits pairs) (let z : 0 + (x - 1) ≡ x - 1 = omega arith in z))
 
-pub clause-added : (c : ℕ) (lits : List ℤ) (pairs t added : List ℕ) (x : ℕ) → c < x
-    → clauseAt (held c lits pairs) t added x ≡ literalsAt t (getD added (2 * (x - c - 1)) 0 - 1)
-unfolding clauseAt held
-clause-added c lits pairs t added x h = rw (length-tab 0 c (storedClause lits pairs), lt-leb x c h)
+pub clause-added : (C : ℕ) (lits : List ℤ) (pairs t added : List ℕ) (x : ℕ) → C < x
+    → clauseAt (formulaIn C lits pairs) t added x ≡ literalsAt t (getD added (2 * (x - C - 1)) 0 - 1)
+unfolding clauseAt formulaIn
+clause-added C lits pairs t added x h = rw (length-tab 0 C (storedClause lits pairs), lt-leb x C h)
 
 -- the same over the numbers that its pair holds
-pub original-is : (c : ℕ) (lits : List ℤ) (pairs t added : List ℕ) (x from k : ℕ) → 1 ≤ x → x ≤ c
-    → from ≡ getD pairs (2 * (x - 1)) 0 → k ≡ getD pairs (2 * (x - 1) + 1) 0 → storeFrom k lits from ≡ clauseAt (held c lits pairs) t added x
+pub original-is : (C : ℕ) (lits : List ℤ) (pairs t added : List ℕ) (x from k : ℕ) → 1 ≤ x → x ≤ C
+    → from ≡ getD pairs (2 * (x - 1)) 0 → k ≡ getD pairs (2 * (x - 1) + 1) 0 → storeFrom k lits from ≡ clauseAt (formulaIn C lits pairs) t added x
 unfolding storedClause
-original-is c lits pairs t added x from k l h e f = rw (e, f) (sym (clause-original c lits pairs t added x l h))
+original-is C lits pairs t added x from k l h e f = rw (e, f) (sym (clause-original C lits pairs t added x l h))
 
 pub stored-below : (n : ℕ) (lits : List ℤ) (pairs : List ℕ) (j from k : ℕ) → from ≡ getD pairs (2 * j) 0 → k ≡ getD pairs (2 * j + 1) 0
     → Below n (storedClause lits pairs j) → Below n (storeFrom k lits from)
 unfolding storedClause
 stored-below n lits pairs j from k e f b = rw (e, f) b
 
-pub added-is : (c : ℕ) (lits : List ℤ) (pairs t added : List ℕ) (x o : ℕ) → c < x → o ≡ getD added (2 * (x - c - 1)) 0
-    → literalsAt t (o - 1) ≡ clauseAt (held c lits pairs) t added x
-added-is c lits pairs t added x o h e = rw e (sym (clause-added c lits pairs t added x h))
+pub added-is : (C : ℕ) (lits : List ℤ) (pairs t added : List ℕ) (x o : ℕ) → C < x → o ≡ getD added (2 * (x - C - 1)) 0
+    → literalsAt t (o - 1) ≡ clauseAt (formulaIn C lits pairs) t added x
+added-is C lits pairs t added x o h e = rw e (sym (clause-added C lits pairs t added x h))
 
 -- the variables of a clause that stands
-pub clause-below : (c a : ℕ) (lits : List ℤ) (pairs t added : List ℕ) (n x : ℕ) → Holds c lits pairs n → Fit t a added n → true ≡ standsIn c a added x
-    → Below n (clauseAt (held c lits pairs) t added x)
-clause-below c a lits pairs t added n x holds fit e = go (le? x c)
+pub clause-below : (C a : ℕ) (lits : List ℤ) (pairs t added : List ℕ) (n x : ℕ) → OriginalsInStore C lits pairs n → AddedInText t a added n → true ≡ standsIn C a added x
+    → Below n (clauseAt (formulaIn C lits pairs) t added x)
+clause-below C a lits pairs t added n x holds additions e = go (le? x C)
   where
-    go : (x ≤ c) ⊎ (c < x) → Below n (clauseAt (held c lits pairs) t added x)
+    go : (x ≤ C) ⊎ (C < x) → Below n (clauseAt (formulaIn C lits pairs) t added x)
     go (inl h) =
-        let l = stands-named c a added x e in
-        subst (Below n) (sym (clause-original c lits pairs t added x l h)) (holds .below (x - 1) (omega arith))
+        let l = stands-named C a added x e in
+        subst (Below n) (sym (clause-original C lits pairs t added x l h)) (holds .below (x - 1) (omega arith))
     go (inr h) =
-        subst (Below n) (sym (clause-added c lits pairs t added x h))
-        (fit .placed (x - c - 1) (stands-inside c a added x e h) (stands-long c a added x e h) .below)
+        subst (Below n) (sym (clause-added C lits pairs t added x h))
+        (additions .placed (x - C - 1) (stands-inside C a added x e h) (stands-long C a added x e h) .below)
 
 -- ---- the unset literal is one of the clause's
-minus-low : (b : Bool) → minusOf b ≤ 1
-minus-low true = omega arith
-minus-low false = omega arith
-
 found-inside : (τ : Values) (n : ℕ) (c : Clause) (v m : ℕ) → Below n c → found τ c ≡ Unset v m → (v < n) × (m ≤ 1)
 found-inside τ n [] v m b e = let z : _≡_ {A = ℕ} 0 1 = cc in absurd (omega arith)
 found-inside τ n (l ∷ c) v m b e = go (literalValue τ l) (found τ c) e (found-inside τ n c v m (b .1))
@@ -116,7 +113,7 @@ found-inside τ n (l ∷ c) v m b e = go (literalValue τ l) (found τ c) e (fou
     go : (o : Option Bool) (f : Found) → before o l f ≡ Unset v m → (f ≡ Unset v m → (v < n) × (m ≤ 1)) → (v < n) × (m ≤ 1)
     go none AllFalse q k =
         let z : l .variable ≡ v = cc in let y : minusOf (l .negative) ≡ m = cc in
-        (subst (λ (j : ℕ). j < n) z (b .0 .1), subst (λ (j : ℕ). j ≤ 1) y (minus-low (l .negative)))
+        (subst (λ (j : ℕ). j < n) z (b .0 .1), subst (λ (j : ℕ). j ≤ 1) y (minus-most (l .negative)))
     go none (Unset w j) q k = let z : _≡_ {A = ℕ} 0 1 = cc in absurd (omega arith)
     go none Other q k = let z : _≡_ {A = ℕ} 0 1 = cc in absurd (omega arith)
     go (some false) f q k = k q
@@ -127,13 +124,9 @@ unfolding foundIn
 found-below g vs n c v m b e = found-inside (valuesIn g vs) n c v m b (sym e)
 
 -- ---- one hint
-module _ (F : Formula) (t : List ℕ) (a : ℕ) (added : List ℕ) (g x : ℕ) (vs : List ℕ) (small : Small g vs) where
-  -- the code 21 means that the hints go on
-  stop-code : (k n : ℕ) → (k ≡ 21 → ⊥) → k ≡ cond (eqb k 21) n k
-  stop-code k n d = rw (ne-eqb k 21 d)
-
-  pub hint-gone : (r : ℕ) → r ≡ 19 → false ≡ standsIn (length F) a added x → Hint F t a added g x vs r vs
-  hint-gone r z e = record { small = small; so = λ xs. rw (← e, z) }
+module _ (F : Formula) (t : List ℕ) (a : ℕ) (added : List ℕ) (g x : ℕ) (vs : List ℕ) (during : DuringLine g vs) where
+  pub hint-gone : (r : ℕ) → r ≡ 19 → false ≡ standsIn (length F) a added x → AfterHint F t a added g x vs r vs
+  hint-gone r z e = record { during = during; so = λ xs. rw (← e, z) }
 
   module _ (stands : true ≡ standsIn (length F) a added x) (f : Found) (is : f ≡ foundIn g vs (clauseAt F t added x)) where
     turn : (xs : List ℕ) → hinted (standsIn (length F) a added) (clauseAt F t added) (valuesIn g vs) (x ∷ xs)
@@ -141,50 +134,50 @@ module _ (F : Formula) (t : List ℕ) (a : ℕ) (added : List ℕ) (g x : ℕ) (
     unfolding foundIn
     turn xs = rw (← stands, ← is)
 
-    pub hint-conflict : (r : ℕ) → r ≡ 0 → f ≡ AllFalse → Hint F t a added g x vs r vs
-    hint-conflict r z e = record { small = small; so = λ xs. turn xs ∙ rw (e, z) }
+    pub hint-conflict : (r : ℕ) → r ≡ 0 → f ≡ AllFalse → AfterHint F t a added g x vs r vs
+    hint-conflict r z e = record { during = during; so = λ xs. turn xs ∙ rw (e, z) }
 
-    pub hint-other : (r : ℕ) → r ≡ 20 → f ≡ Other → Hint F t a added g x vs r vs
-    hint-other r z e = record { small = small; so = λ xs. turn xs ∙ rw (e, z) }
+    pub hint-other : (r : ℕ) → r ≡ 20 → f ≡ Other → AfterHint F t a added g x vs r vs
+    hint-other r z e = record { during = during; so = λ xs. turn xs ∙ rw (e, z) }
 
-    pub hint-unset : (r : ℕ) → r ≡ 21 → (v m : ℕ) → f ≡ Unset v m → v < length vs → m ≤ 1 → Hint F t a added g x vs r (set vs v (g + 1 - m))
+    pub hint-unset : (r : ℕ) → r ≡ 21 → (v m : ℕ) → f ≡ Unset v m → v < length vs → m ≤ 1 → AfterHint F t a added g x vs r (set vs v (g + 1 - m))
     hint-unset r z v m e l h =
         record {
-          small = set-small g vs v (g + 1 - m) (omega arith) small;
+          during = set-during g vs v (g + 1 - m) (omega arith) during;
           so = λ xs. turn xs ∙ rw (e, z, set-true g vs m v h l);
         }
 
 -- ---- hints under way: all of them end as those from p on do under the values so far, unless the code says more
 pub record Hinting (F : Formula) (t : List ℕ) (at a : ℕ) (added : List ℕ) (g : ℕ) (vs₀ : List ℕ) (p code : ℕ) (vs : List ℕ) : Type 0 where
-  pub small : Small g vs
+  pub during : DuringLine g vs
   pub long : length vs ≡ length vs₀
   pub form : runAt plainAt t at ≡ runAt plainAt t p
   pub so-far : hinted (standsIn (length F) a added) (clauseAt F t added) (valuesIn g vs₀) (idsAt t at)
       ≡ cond (eqb code 21) (hinted (standsIn (length F) a added) (clauseAt F t added) (valuesIn g vs) (idsAt t p)) code
 
-pub hinting-start : (F : Formula) (t : List ℕ) (at a : ℕ) (added : List ℕ) (g : ℕ) (vs : List ℕ) → Small g vs → Hinting F t at a added g vs at 21 vs
-hinting-start F t at a added g vs s = record { small = s; long = refl; form = refl; so-far = refl }
+pub hinting-start : (F : Formula) (t : List ℕ) (at a : ℕ) (added : List ℕ) (g : ℕ) (vs : List ℕ) → DuringLine g vs → Hinting F t at a added g vs at 21 vs
+hinting-start F t at a added g vs s = record { during = s; long = refl; form = refl; so-far = refl }
 
 module _ {F : Formula} {t : List ℕ} {at a : ℕ} {added : List ℕ} {g : ℕ} {vs₀ : List ℕ} {p code : ℕ} {vs : List ℕ} (s : Hinting F t at a added g vs₀ p code vs) where
-  bad-run : runAt plainAt t p ≡ run 0 0 → (r : Ended) → r .next ≡ 0 → Hints F t at a added g vs₀ r vs
-  bad-run e r y = record { small = s .small; form = y ∙ sym (ap (λ (q : Run). q .next) (s .form ∙ e)); code = λ d. absurd (d y) }
+  bad-run : runAt plainAt t p ≡ run 0 0 → (r : HintsRead) → r .next ≡ 0 → AfterHints F t at a added g vs₀ r vs
+  bad-run e r y = record { during = s .during; form = y ∙ sym (ap (λ (q : Run). q .next) (s .form ∙ e)); code = λ d. absurd (d y) }
 
-  pub hints-unspaced : (byteAt t p ≡ 32 → ⊥) → (r : Ended) → r .next ≡ 0 → Hints F t at a added g vs₀ r vs
+  pub hints-unspaced : (byteAt t p ≡ 32 → ⊥) → (r : HintsRead) → r .next ≡ 0 → AfterHints F t at a added g vs₀ r vs
   hints-unspaced d = bad-run (run-unspaced plainAt plain-reads t p d)
 
   module _ (w : Word) (is : w ≡ plainAt t (p + 1)) (space : byteAt t p ≡ 32) where
-    pub hints-wordless : w .next ≡ 0 → (r : Ended) → r .next ≡ 0 → Hints F t at a added g vs₀ r vs
+    pub hints-wordless : w .next ≡ 0 → (r : HintsRead) → r .next ≡ 0 → AfterHints F t at a added g vs₀ r vs
     hints-wordless e = bad-run (run-wordless plainAt plain-reads t p w is space e)
 
     module _ (there : w .next ≡ 0 → ⊥) where
       spent : (k : ℕ) → cond (eqb k 21) 21 k ≡ k
       spent k = ⊎-elim (λ (e : k ≡ 21). rw (e)) (λ (d : k ≡ 21 → ⊥). rw (ne-eqb k 21 d)) (eq? k 21)
 
-      pub hints-end : w .value ≡ 0 → (r : Ended) → r .next ≡ w .next → r .code ≡ code → Hints F t at a added g vs₀ r vs
+      pub hints-end : w .value ≡ 0 → (r : HintsRead) → r .next ≡ w .next → r .code ≡ code → AfterHints F t at a added g vs₀ r vs
       unfolding hintsOf
       hints-end z r y q =
           record {
-            small = s .small;
+            during = s .during;
             form = y ∙ sym (ap (λ (n : Run). n .next) (s .form ∙ run-last plainAt plain-reads t p w is space there z));
             code = λ _. q ∙ sym (s .so-far ∙ rw (ids-none t p w is z) (spent code));
           }
@@ -195,44 +188,44 @@ module _ {F : Formula} {t : List ℕ} {at a : ℕ} {added : List ℕ} {g : ℕ} 
 
         -- an earlier hint ended them
         pub hinting-unread : (code ≡ 21 → ⊥) → Hinting F t at a added g vs₀ (w .next) code vs
-        hinting-unread d = record { small = s .small; long = s .long; form = on; so-far = s .so-far ∙ rw (ne-eqb code 21 d) }
+        hinting-unread d = record { during = s .during; long = s .long; form = on; so-far = s .so-far ∙ rw (ne-eqb code 21 d) }
 
         -- this one is read
-        pub hinting-more : code ≡ 21 → (r : ℕ) (us : List ℕ) → length us ≡ length vs → Hint F t a added g (w .value) vs r us
+        pub hinting-more : code ≡ 21 → (r : ℕ) (us : List ℕ) → length us ≡ length vs → AfterHint F t a added g (w .value) vs r us
             → Hinting F t at a added g vs₀ (w .next) r us
         hinting-more e r us l h =
             record {
-              small = h .small;
+              during = h .during;
               long = l ∙ s .long;
               form = on;
               so-far = s .so-far ∙ rw (e, ids-more t p w is more) (h .so (idsAt t (w .next)));
             }
 
 -- ---- deletions under way
-pub record Deleting (t : List ℕ) (c a : ℕ) (added₀ : List ℕ) (at : ℕ) (added : List ℕ) (p : ℕ) : Type 0 where
-  pub so-far : deleteAll c a added₀ (idsAt t at) ≡ deleteAll c a added (idsAt t p)
+pub record Deleting (t : List ℕ) (C a : ℕ) (added₀ : List ℕ) (at : ℕ) (added : List ℕ) (p : ℕ) : Type 0 where
+  pub so-far : deleteAll C a added₀ (idsAt t at) ≡ deleteAll C a added (idsAt t p)
   pub long : length added ≡ length added₀
 
-pub deleting-start : {t : List ℕ} {c a : ℕ} {added : List ℕ} {p : ℕ} → Deleting t c a added p added p
+pub deleting-start : {t : List ℕ} {C a : ℕ} {added : List ℕ} {p : ℕ} → Deleting t C a added p added p
 deleting-start = record { so-far = refl; long = refl }
 
-module _ {t : List ℕ} {c a : ℕ} {added₀ : List ℕ} {at : ℕ} {added : List ℕ} {p : ℕ} (s : Deleting t c a added₀ at added p) where
-  pub delete-end : idsAt t p ≡ [] → deleted 0 added ≡ deleteAll c a added₀ (idsAt t at)
+module _ {t : List ℕ} {C a : ℕ} {added₀ : List ℕ} {at : ℕ} {added : List ℕ} {p : ℕ} (s : Deleting t C a added₀ at added p) where
+  pub delete-end : idsAt t p ≡ [] → deleted 0 added ≡ deleteAll C a added₀ (idsAt t at)
   unfolding deleteAll
-  delete-end e = sym (s .so-far ∙ ap (deleteAll c a added) e)
+  delete-end e = sym (s .so-far ∙ ap (deleteAll C a added) e)
 
   module _ (x q : ℕ) (step : idsAt t p ≡ x ∷ idsAt t q) where
-    turned : deleteAll c a added₀ (idsAt t at) ≡ cond (standsIn c a added x) (deleteAll c a (without c added x) (idsAt t q)) (deleted 19 added)
+    turned : deleteAll C a added₀ (idsAt t at) ≡ cond (standsIn C a added x) (deleteAll C a (without C added x) (idsAt t q)) (deleted 19 added)
     unfolding deleteAll
-    turned = s .so-far ∙ ap (deleteAll c a added) step
+    turned = s .so-far ∙ ap (deleteAll C a added) step
 
-    pub delete-gone : false ≡ standsIn c a added x → deleted 19 added ≡ deleteAll c a added₀ (idsAt t at)
+    pub delete-gone : false ≡ standsIn C a added x → deleted 19 added ≡ deleteAll C a added₀ (idsAt t at)
     delete-gone e = sym (turned ∙ rw (← e))
 
-    pub delete-original : true ≡ standsIn c a added x → x ≤ c → Deleting t c a added₀ at added q
+    pub delete-original : true ≡ standsIn C a added x → x ≤ C → Deleting t C a added₀ at added q
     unfolding without
-    delete-original e l = record { so-far = turned ∙ rw (← e, le-leb x c l); long = s .long }
+    delete-original e l = record { so-far = turned ∙ rw (← e, le-leb x C l); long = s .long }
 
-    pub delete-added : true ≡ standsIn c a added x → c < x → Deleting t c a added₀ at (set added (2 * (x - c - 1) + 1) 0) q
+    pub delete-added : true ≡ standsIn C a added x → C < x → Deleting t C a added₀ at (set added (2 * (x - C - 1) + 1) 0) q
     unfolding without
-    delete-added e l = record { so-far = turned ∙ rw (← e, lt-leb x c l); long = length-set added (2 * (x - c - 1) + 1) 0 ∙ s .long }
+    delete-added e l = record { so-far = turned ∙ rw (← e, lt-leb x C l); long = length-set added (2 * (x - C - 1) + 1) 0 ∙ s .long }

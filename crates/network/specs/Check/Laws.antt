@@ -16,7 +16,7 @@ use Rattle.request.specs.Numbers.{refusalOf}
 use Rattle.rows.specs.Rows.{Row, rowAt, rowsOf, bit, literalOn}
 use Rattle.rows.specs.Rows.Laws.{rows-length, rows-at}
 use Rattle.request.specs.declared.Request.{Request}
-use Rattle.network.specs.Networks.{source, sink, switchOf, other, closedOn, literalAt, labelAt}
+use Rattle.network.specs.Networks.{terminals, source, sink, switchOf, other, closedOn, literalAt, labelAt}
 use Rattle.network.specs.Check.{labelIn, atSink, leads, touching, nearer, near, move, part, apart, rightIf, rowRight, literalsLow, labelsLowest, fitting, firstWrong, rowsAnswer, checkedOf}
 use Rattle.network.specs.Value.{listed}
 use Rattle.network.specs.declared.Network.{Network}
@@ -90,9 +90,9 @@ moves e f g h = cc
 
 -- two networks of r switches that agree on the r switches and on the 2r + 2 labels
 module _ (r : ℕ) (shut shut′ : ℕ → Bool) (label label′ : ℕ → ℕ)
-    (switches : (s : ℕ) → s < r → shut s ≡ shut′ s) (labels : (i : ℕ) → i < 2 * r + 2 → label i ≡ label′ i) where
+    (switches : (s : ℕ) → s < r → shut s ≡ shut′ s) (labels : (i : ℕ) → i < terminals r → label i ≡ label′ i) where
   -- one step from marks that agree
-  pub nearer-same : (p q : ℕ → Bool) → ((i : ℕ) → i < 2 * r + 2 → p i ≡ q i) → (i : ℕ) → i < 2 * r + 2
+  pub nearer-same : (p q : ℕ → Bool) → ((i : ℕ) → i < terminals r → p i ≡ q i) → (i : ℕ) → i < terminals r
       → nearer r shut label p i ≡ nearer r shut′ label′ q i
   unfolding nearer touching
   nearer-same p q h i l =
@@ -102,13 +102,13 @@ module _ (r : ℕ) (shut shut′ : ℕ → Bool) (label label′ : ℕ → ℕ)
       (ap₂ _&&_ (switches (switchOf e) (omega arith)) (h (other e) (omega arith)))))
 
   -- within t closed switches of the sink's net
-  pub near-same : (t i : ℕ) → i < 2 * r + 2 → near r shut label t i ≡ near r shut′ label′ t i
+  pub near-same : (t i : ℕ) → i < terminals r → near r shut label t i ≡ near r shut′ label′ t i
   unfolding near atSink
   near-same zero i l = ap₂ eqb (labels i l) (labels (sink r) (omega arith))
   near-same (suc t) i l = nearer-same (near r shut label t) (near r shut′ label′ t) (λ j h. near-same t j h) i l
 
   -- parts after s switches
-  pub part-same : (s i : ℕ) → s ≤ r → i < 2 * r + 2 → part shut label s i ≡ part shut′ label′ s i
+  pub part-same : (s i : ℕ) → s ≤ r → i < terminals r → part shut label s i ≡ part shut′ label′ s i
   unfolding part
   part-same zero i h l = labels i l
   part-same (suc s) i h l =
@@ -128,8 +128,8 @@ module _ (r : ℕ) (shut : ℕ → Bool) (label : ℕ → ℕ) where
   near-zero i = refl
 
   -- one step more of the search from the sink, over marks that are right
-  pub near-more : (t : ℕ) (p : ℕ → Bool) → ((i : ℕ) → i < 2 * r + 2 → p i ≡ near r shut label t i)
-      → (i : ℕ) → i < 2 * r + 2 → nearer r shut label p i ≡ near r shut label (t + 1) i
+  pub near-more : (t : ℕ) (p : ℕ → Bool) → ((i : ℕ) → i < terminals r → p i ≡ near r shut label t i)
+      → (i : ℕ) → i < terminals r → nearer r shut label p i ≡ near r shut label (t + 1) i
   unfolding near
   near-more t p h i l =
       nearer-same r shut shut label label (λ s k. refl) (λ j k. refl) p (near r shut label t) h i l
@@ -192,28 +192,28 @@ module _ (r : ℕ) (label : ℕ → ℕ) where
   lowest i = leb (label i) i && eqb (label (label i)) (label i)
 
   -- a label that is no lowest terminal of its net
-  lowest-not : (i : ℕ) → i < 2 * r + 2 → lowest i ≡ false → false ≡ labelsLowest r label
+  lowest-not : (i : ℕ) → i < terminals r → lowest i ≡ false → false ≡ labelsLowest r label
   unfolding labelsLowest lowest
   lowest-not i l h =
-      sym (not-true-false (allFrom 0 (2 * r + 2) lowest) (λ t.
-      subst T h (all-out 0 (2 * r + 2) lowest (T-of (allFrom 0 (2 * r + 2) lowest) t) i (omega arith) (omega arith))))
+      sym (not-true-false (allFrom 0 (terminals r) lowest) (λ t.
+      subst T h (all-out 0 (terminals r) lowest (T-of (allFrom 0 (terminals r) lowest) t) i (omega arith) (omega arith))))
 
   -- a label above its terminal
-  pub label-above : (i : ℕ) → i < 2 * r + 2 → i < label i → false ≡ labelsLowest r label
+  pub label-above : (i : ℕ) → i < terminals r → i < label i → false ≡ labelsLowest r label
   unfolding lowest
   label-above i l h = lowest-not i l (and-first _ _ (lt-leb (label i) i h))
 
   -- a label that is a terminal of another net
-  pub label-other : (i : ℕ) → i < 2 * r + 2 → (label (label i) ≡ label i → ⊥) → false ≡ labelsLowest r label
+  pub label-other : (i : ℕ) → i < terminals r → (label (label i) ≡ label i → ⊥) → false ≡ labelsLowest r label
   unfolding lowest
   label-other i l h = lowest-not i l (and-second (leb (label i) i) _ (ne-eqb (label (label i)) (label i) h))
 
   -- every label the lowest terminal of its net
-  pub labels-right : ((i : ℕ) → i < 2 * r + 2 → (label i ≤ i) × (label (label i) ≡ label i)) → true ≡ labelsLowest r label
+  pub labels-right : ((i : ℕ) → i < terminals r → (label i ≤ i) × (label (label i) ≡ label i)) → true ≡ labelsLowest r label
   unfolding labelsLowest lowest
   labels-right h =
-      sym (T-eq (allFrom 0 (2 * r + 2) lowest)
-      (all-in 0 (2 * r + 2) lowest (λ i l u.
+      sym (T-eq (allFrom 0 (terminals r) lowest)
+      (all-in 0 (terminals r) lowest (λ i l u.
       and-in (leb (label i) i) _ (le→leb (label i) i (h i (omega arith) .0)) (eq→eqb (label (label i)) (label i) (h i (omega arith) .1)))))
 
 module _ (r : ℕ) (w : Network) where
@@ -222,9 +222,9 @@ module _ (r : ℕ) (w : Network) where
   unfolding listed
   listed-literal s l = sym (getD-take r (w .literals) s 0 l)
 
-  pub listed-label : (i : ℕ) → i < 2 * r + 2 → getD (w .labels) i 0 ≡ labelAt (listed r w) i
+  pub listed-label : (i : ℕ) → i < terminals r → getD (w .labels) i 0 ≡ labelAt (listed r w) i
   unfolding listed
-  listed-label i l = sym (getD-take (2 * r + 2) (w .labels) i 0 l)
+  listed-label i l = sym (getD-take (terminals r) (w .labels) i 0 l)
 
 -- a row of a network, from what the array of closed switches holds
 module _ (r m : ℕ) (w : Network) (n table k : ℕ) (shut : ℕ → Bool)

@@ -13,16 +13,16 @@ use lib.ListN.{length, getD}
 use lib.Seq.{getD-take, length-take-le}
 use Rattle.prelude.specs.Tests.{T-cases, T-of, F-eq, and-in, and-l, and-r, or-l, or-r, or-cases, eq→eqb, ne→neqb, neqb→ne, eq?, cond-true, cond-false}
 use Rattle.prelude.specs.Lists.{anyFrom, firstOf}
-use Rattle.prelude.specs.Lists.Laws.{any-out, any-in, all-out, all-in, first-is, first-none, first-before, first-holds, first-within, each-in, each-out}
-use Rattle.request.specs.Numbers.{Good, refusalOf}
+use Rattle.prelude.specs.Lists.Laws.{any-out, any-in, all-out, all-in, first-is, first-none, first-before, first-holds, each-in, each-out}
+use Rattle.request.specs.Numbers.{switchesMost, Good, refusalOf}
 use Rattle.request.specs.Numbers.Laws.{refusal-good, good-refusal}
 use Rattle.rows.specs.Rows.{Row, rowAt, rowsOf}
 use Rattle.rows.specs.Rows.Laws.{rows-length, rows-at}
 use Rattle.request.specs.declared.Request.{Request}
-use Rattle.network.specs.Networks.{Net, source, sink, switchOf, other, literalAt, labelAt, closedOn, Walk, DoneIf, Done, DoesAll}
+use Rattle.network.specs.Networks.{terminals, Net, source, sink, switchOf, other, literalAt, labelAt, closedOn, Walk, DoneIf, Done, DoesAll}
 use Rattle.network.specs.Networks.Laws.{walk-append}
 use Rattle.network.specs.Check.{atSink, leads, touching, nearer, near, move, part, apart, rightIf, rowRight, labelIn, literalsLow, labelsLowest, fitting, firstWrong, rowsAnswer, checkedOf}
-use Rattle.network.specs.Value.{listed}
+use Rattle.network.specs.Value.{terminalsMost, listed}
 use Rattle.network.specs.Meaning.{Accepted, LowestWrong, Means}
 use Rattle.network.specs.declared.Network.{Network}
 use Rattle.network.specs.declared.Checked.{Checked}
@@ -213,9 +213,9 @@ module _ (q : Request) (w : Network) where
   unfolding listed
   literal-is s h = getD-take (q .r) (w .literals) s 0 h
 
-  label-is : (i : ℕ) → i < 2 * q .r + 2 → labelAt net i ≡ labelIn (w .labels) i
+  label-is : (i : ℕ) → i < terminals (q .r) → labelAt net i ≡ labelIn (w .labels) i
   unfolding listed
-  label-is i h = getD-take (2 * q .r + 2) (w .labels) i 0 h
+  label-is i h = getD-take (terminals (q .r)) (w .labels) i 0 h
 
   abbrev sized : Bool
   sized = eqb (w .r) (q .r)
@@ -231,15 +231,16 @@ module _ (q : Request) (w : Network) where
   lowest i = leb (labelIn (w .labels) i) i && eqb (labelIn (w .labels) (labelIn (w .labels) i)) (labelIn (w .labels) i)
 
   -- a network that passes the test of the form has it
-  fitting-accepted : length (w .literals) ≡ 7 → length (w .labels) ≡ 16 → Good q → T (fitting q w) → Accepted q w
+  fitting-accepted : length (w .literals) ≡ switchesMost → length (w .labels) ≡ terminalsMost
+      → Good q → T (fitting q w) → Accepted q w
   unfolding fitting listed literalsLow labelsLowest
   fitting-accepted l7 l16 good t =
       let t2 = and-r sized (lows && lowests) t in
       let low : (s : ℕ) → s < q .r → labelIn (w .literals) s < 2 * q .n =
       λ s h. ltb→lt _ _ (all-out 0 (q .r) (λ s. ltb (labelIn (w .literals) s) (2 * q .n)) (and-l lows lowests t2) s (omega arith) (omega arith)) in
-      let own : (i : ℕ) → i < 2 * q .r + 2 → T (lowest i) =
-      λ i h. all-out 0 (2 * q .r + 2) lowest (and-r lows lowests t2) i (omega arith) (omega arith) in
-      let down : (i : ℕ) → i < 2 * q .r + 2 → labelIn (w .labels) i ≤ i =
+      let own : (i : ℕ) → i < terminals (q .r) → T (lowest i) =
+      λ i h. all-out 0 (terminals (q .r)) lowest (and-r lows lowests t2) i (omega arith) (omega arith) in
+      let down : (i : ℕ) → i < terminals (q .r) → labelIn (w .labels) i ≤ i =
       λ i h. leb→le _ _ (and-l (leb (labelIn (w .labels) i) i) (eqb (labelIn (w .labels) (labelIn (w .labels) i)) (labelIn (w .labels) i)) (own i h)) in
       let high = good .r-high in
       record {
@@ -247,7 +248,7 @@ module _ (q : Request) (w : Network) where
         size = eqb→eq (w .r) (q .r) (and-l sized (lows && lowests) t);
         form = record {
           literals-long = length-take-le (q .r) (w .literals) (omega arith);
-          labels-long = length-take-le (2 * q .r + 2) (w .labels) (omega arith);
+          labels-long = length-take-le (terminals (q .r)) (w .labels) (omega arith);
           literals-low = λ s h. rw (literal-is s h) (low s h);
           labels-low = λ i h. rw (label-is i h) (down i h);
           labels-own = λ i h.
@@ -263,14 +264,15 @@ module _ (q : Request) (w : Network) where
   unfolding fitting literalsLow labelsLowest
   accepted-fitting a =
       let f = a .form in
-      let down : (i : ℕ) → i < 2 * q .r + 2 → labelIn (w .labels) i ≤ i = λ i h. subst (λ (x : ℕ). x ≤ i) (label-is i h) (f .labels-low i h) in
+      let down : (i : ℕ) → i < terminals (q .r) → labelIn (w .labels) i ≤ i =
+      λ i h. subst (λ (x : ℕ). x ≤ i) (label-is i h) (f .labels-low i h) in
       and-in sized (lows && lowests) (eq→eqb (w .r) (q .r) (a .size))
       (and-in lows lowests
       (all-in 0 (q .r) (λ s. ltb (labelIn (w .literals) s) (2 * q .n)) (λ s _ h.
       let g : s < q .r = omega arith in
       lt→ltb _ _ (subst (λ (x : ℕ). x < 2 * q .n) (literal-is s g) (f .literals-low s g))))
-      (all-in 0 (2 * q .r + 2) lowest (λ i _ h.
-      let g : i < 2 * q .r + 2 = omega arith in
+      (all-in 0 (terminals (q .r)) lowest (λ i _ h.
+      let g : i < terminals (q .r) = omega arith in
       let d = down i g in
       and-in (leb (labelIn (w .labels) i) i) (eqb (labelIn (w .labels) (labelIn (w .labels) i)) (labelIn (w .labels) i)) (le→leb _ _ d)
       (eq→eqb _ _ (sym (label-is (labelIn (w .labels) i) (omega arith)) ∙ ap (labelAt net) (sym (label-is i g)) ∙ f .labels-own i g ∙ label-is i g)))))
@@ -295,10 +297,6 @@ module _ (q : Request) (w : Network) where
   before-done : (j : ℕ) → j < firstWrong q w → Done (q .r) (q .m) net (getD rows j (row 0))
   unfolding firstWrong
   before-done j h = done-of (getD rows j (row 0)) (first-before wrongRow rows (row 0) j h)
-
-  wrong-within : firstWrong q w ≤ 2 ^ (q .n)
-  unfolding firstWrong
-  wrong-within = subst (λ (x : ℕ). firstOf wrongRow rows ≤ x) (rows-length (q .n) (q .table)) (first-within wrongRow rows)
 
   -- no wrong row: the network does the job
   none-does : T (not (ltb (firstWrong q w) (2 ^ (q .n)))) → DoesAll (q .r) (q .m) net rows
@@ -347,7 +345,7 @@ module _ (q : Request) (w : Network) where
   good-of t = refusal-good q (eqb→eq (refusalOf q) 0 t)
 
   -- what each answer means, for the arrays of a network
-  pub checked-means : length (w .literals) ≡ 7 → length (w .labels) ≡ 16 → Means q w (checkedOf q w)
+  pub checked-means : length (w .literals) ≡ switchesMost → length (w .labels) ≡ terminalsMost → Means q w (checkedOf q w)
   unfolding checkedOf rowsAnswer
   checked-means l7 l16 =
       let c : Bool = ltb (firstWrong q w) (2 ^ (q .n)) in

@@ -1,14 +1,9 @@
 -- Laws of walks. Assumes nothing.
-use mathlib.Core.Path.{_≡_, refl, sym, ap, _∙_, subst}
+use mathlib.Core.Path.{_≡_, _∙_}
 use mathlib.Core.Bool.{Bool}
 use mathlib.Core.List.{List, [], _∷_, _++_}
-use Prim.Native.Nat.{ℕ, _<_, _≤_, _+_, _*_}
-use lib.ListN.{length}
-use Rattle.network.specs.Networks.{Net, labelAt, FormedAs, other, Enters, Walk}
-
--- a label is at or below every terminal of its net
-pub label-lowest : {n r : ℕ} {w : Net} → FormedAs n r w → (i j : ℕ) → j < 2 * r + 2 → labelAt w j ≡ labelAt w i → labelAt w i ≤ j
-label-lowest {w = w} f i j h e = subst (λ (x : ℕ). x ≤ j) e (f .labels-low j h)
+use Prim.Native.Nat.{ℕ}
+use Rattle.network.specs.Networks.{other, Walk}
 
 module _ (r : ℕ) (shut : ℕ → Bool) (label : ℕ → ℕ) where
   -- a walk may start anywhere on the net

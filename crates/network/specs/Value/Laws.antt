@@ -1,16 +1,14 @@
 -- Laws of networks as values: what the loops that compare two arrays answer, and that the test is equality. Assumes nothing.
-use mathlib.Core.Path.{_≡_, refl, sym, ap, _∙_}
-use mathlib.Core.Bool.{Bool, true, false, _&&_}
+use mathlib.Core.Path.{_≡_, sym, ap, _∙_}
+use mathlib.Core.Bool.{Bool, true, false}
 use mathlib.Core.List.{List}
 use Prim.Native.Nat.{ℕ, _<_}
 use native.Mathlib.Omega.{arith}
-use borrow.Author.Tests.{eqb-true, eq-eqb, ne-eqb}
-use lib.Dec.{eqb}
+use borrow.Author.Tests.{eq-eqb, ne-eqb}
 use lib.ListN.{length, getD}
 use lib.Seq.{ext-getD}
 use Rattle.prelude.specs.Lists.{equalLists}
-use Rattle.prelude.specs.Lists.Laws.{equal-true, true-equal, false-equal}
-use Rattle.prelude.specs.Tests.{T-eq, T-of, and-l, and-r}
+use Rattle.prelude.specs.Lists.Laws.{true-equal, false-equal}
 use Rattle.network.specs.Value.{sameNetwork}
 use Rattle.network.specs.declared.Network.{Network}
 
@@ -43,24 +41,3 @@ module _ (a b : Network) where
       → equalLists (a .labels) (b .labels) ≡ sameNetwork a b
   unfolding sameNetwork
   same-labels e t h f = sym (rw (eq-eqb (a .r) (b .r) e, ← h, f))
-
-  -- networks that pass the test are equal
-  pub same-true : sameNetwork a b ≡ true → a ≡ b
-  unfolding sameNetwork made
-  same-true e =
-      let literals : Bool = equalLists (a .literals) (b .literals) in
-      let labels : Bool = equalLists (a .labels) (b .labels) in
-      let t = T-of (eqb (a .r) (b .r) && (literals && labels)) e in
-      let u = and-r (eqb (a .r) (b .r)) (literals && labels) t in
-      let p = eqb-true (a .r) (b .r) (T-eq (eqb (a .r) (b .r)) (and-l (eqb (a .r) (b .r)) (literals && labels) t)) in
-      let q = equal-true (a .literals) (b .literals) (T-eq literals (and-l literals labels u)) in
-      let s = equal-true (a .labels) (b .labels) (T-eq labels (and-r literals labels u)) in
-      ap (λ (x : ℕ). made x (a .literals) (a .labels)) p ∙ ap (λ (x : List ℕ). made (b .r) x (a .labels)) q
-      ∙ ap (made (b .r) (b .literals)) s
-
-  -- equal networks pass it
-  pub true-same : a ≡ b → sameNetwork a b ≡ true
-  true-same e =
-      sym (same-labels (ap (λ (w : Network). w .r) e) true
-      (sym (true-equal (a .literals) (b .literals) (ap (λ (w : Network). w .literals) e))) refl)
-      ∙ true-equal (a .labels) (b .labels) (ap (λ (w : Network). w .labels) e)

@@ -1,4 +1,5 @@
 -- After s switches the array holds each terminal's part with the closed ones among them merged. Assumes nothing.
+use Rattle.network.specs.Networks.{terminals}
 use Rattle.network.specs.Check.{shutAt, labelIn, part}
 use Rattle.network.specs.Check.Laws.{apart-of, part-zero, part-open, part-closed}
 use mathlib.Core.Path.{_≡_, _∙_}
@@ -11,7 +12,8 @@ use Rattle.network_check.proofs.kept_apart.Statement.{statement}
 use Rattle.network_check.proofs.kept_apart.Tie as tie
 
 abbrev Inv-loop : tie.InvT-loop
-Inv-loop r shut count parts₀ s₀ parts s = (s ≤ count) × ((i : ℕ) → i < 2 * r + 2 → getD parts i 0 ≡ part (shutAt shut) (labelIn parts₀) s i)
+Inv-loop r shut count parts₀ s₀ parts s =
+    (s ≤ count) × ((i : ℕ) → i < terminals r → getD parts i 0 ≡ part (shutAt shut) (labelIn parts₀) s i)
 
 abbrev μ-loop : tie.MeasureT-loop
 μ-loop r shut count parts₀ s₀ parts s = count - s

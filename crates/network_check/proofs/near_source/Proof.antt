@@ -1,9 +1,10 @@
 -- After t steps the marks are the terminals within t closed switches of the sink. Assumes nothing.
+use Rattle.network.specs.Networks.{terminals}
 use Rattle.network.specs.Check.{shutAt, labelIn, nearIn, near}
 use Rattle.network.specs.Check.Laws.{near-zero, near-more, near-all}
 use mathlib.Core.Path.{_≡_, _∙_}
 use mathlib.Core.Bool.{false}
-use Prim.Native.Nat.{ℕ, _+_, _-_, _*_, _≤_, _<_}
+use Prim.Native.Nat.{ℕ, _-_, _≤_, _<_}
 use native.Mathlib.Omega.{arith}
 use lib.ListN.{getD}
 use borrow.Author.Needs.{needs}
@@ -11,7 +12,8 @@ use Rattle.network_check.proofs.near_source.Statement.{statement}
 use Rattle.network_check.proofs.near_source.Tie as tie
 
 abbrev Inv-loop : tie.InvT-loop
-Inv-loop r m shut labels marked₀ t₀ marked t = (t ≤ m) × ((i : ℕ) → i < 2 * r + 2 → getD marked i false ≡ near r (shutAt shut) (labelIn labels) t i)
+Inv-loop r m shut labels marked₀ t₀ marked t =
+    (t ≤ m) × ((i : ℕ) → i < terminals r → getD marked i false ≡ near r (shutAt shut) (labelIn labels) t i)
 
 abbrev μ-loop : tie.MeasureT-loop
 μ-loop r m shut labels marked₀ t₀ marked t = m - t

@@ -178,27 +178,26 @@ module _ {A : Type 0} where
   pairs-length at (x ∷ a) = let e = pairs-length (at + length x) a in omega arith
 
   -- the pairs of the first k + 1 lists
-  pub pairs-more : (F : List (List A)) (k : ℕ) → k < length F
-      → pairsFrom 0 (take (k + 1) F) ≡ pairsFrom 0 (take k F) ++ (length (flatten (take k F)) ∷ length (getD F k []) ∷ [])
+  pairs-more : (at : ℕ) (F : List (List A)) (k : ℕ) → k < length F
+      → pairsFrom at (take (k + 1) F) ≡ pairsFrom at (take k F) ++ ((at + length (flatten (take k F))) ∷ length (getD F k []) ∷ [])
   unfolding pairsFrom
-  pairs-more F k h =
-      ap (λ (j : ℕ). pairsFrom 0 (take j F)) (add-one k) ∙ ap (pairsFrom 0) (take-suc F k [] h)
-      ∙ pairs-append 0 (take k F) (getD F k [] ∷ []) ∙ rw zero-add
+  pairs-more at F k h =
+      ap (λ (j : ℕ). pairsFrom at (take j F)) (add-one k) ∙ ap (pairsFrom at) (take-suc F k [] h)
+      ∙ pairs-append at (take k F) (getD F k [] ∷ [])
 
   -- the pairs of the lists before list k
-  pairs-before : (F : List (List A)) (k : ℕ) → k ≤ length F → length (pairsFrom 0 (take k F)) ≡ 2 * k
-  pairs-before F k h = pairs-length 0 (take k F) ∙ ap (λ (i : ℕ). 2 * i) (length-take-le k F h)
+  pairs-before : (at : ℕ) (F : List (List A)) (k : ℕ) → k ≤ length F → length (pairsFrom at (take k F)) ≡ 2 * k
+  pairs-before at F k h = pairs-length at (take k F) ∙ ap (λ (i : ℕ). 2 * i) (length-take-le k F h)
 
-  -- a store one list further: its pairs
-  pub store-pairs-more : (l : List ℕ) (F : List (List A)) (k : ℕ) → k < length F → 2 * length F ≤ length l
-      → written (written l 0 (pairsFrom 0 (take k F))) (2 * k) (length (flatten (take k F)) ∷ length (getD F k []) ∷ [])
-      ≡ written l 0 (pairsFrom 0 (take (k + 1) F))
-  store-pairs-more l F k h room =
-      let e = pairs-before F k (omega arith) in
-      let z : 2 * k ≡ 0 + length (pairsFrom 0 (take k F)) = omega arith in
-      ap (λ (i : ℕ). written (written l 0 (pairsFrom 0 (take k F))) i (length (flatten (take k F)) ∷ length (getD F k []) ∷ [])) z
-      ∙ written-append l 0 (pairsFrom 0 (take k F)) (length (flatten (take k F)) ∷ length (getD F k []) ∷ []) (omega arith)
-      ∙ ap (written l 0) (sym (pairs-more F k h))
+  -- a store one list further: its pairs, from the entry to on
+  pub store-pairs-more : (l : List ℕ) (to at : ℕ) (F : List (List A)) (k : ℕ) → k < length F → to + 2 * length F ≤ length l
+      → written (written l to (pairsFrom at (take k F))) (to + 2 * k) ((at + length (flatten (take k F))) ∷ length (getD F k []) ∷ [])
+      ≡ written l to (pairsFrom at (take (k + 1) F))
+  store-pairs-more l to at F k h room =
+      let e = pairs-before at F k (omega arith) in
+      let pair : List ℕ = (at + length (flatten (take k F))) ∷ length (getD F k []) ∷ [] in
+      ap (λ (i : ℕ). written (written l to (pairsFrom at (take k F))) (to + i) pair) (sym e)
+      ∙ written-append l to (pairsFrom at (take k F)) pair (omega arith) ∙ ap (written l to) (sym (pairs-more at F k h))
 
   -- list k with what stands before and after it
   pub flatten-split : (F : List (List A)) (k : ℕ) → k < length F
@@ -216,12 +215,12 @@ module _ {A : Type 0} where
   pub pair-offset : (F : List (List A)) (k : ℕ) → k < length F → getD (pairsFrom 0 F) (2 * k) 0 ≡ length (flatten (take k F))
   pair-offset F k h =
       ap (λ (l : List ℕ). getD l (2 * k) 0) (pairs-split F k h)
-      ∙ getD-at (pairsFrom 0 (take k F)) _ _ 0 (2 * k) (pairs-before F k (omega arith))
+      ∙ getD-at (pairsFrom 0 (take k F)) _ _ 0 (2 * k) (pairs-before 0 F k (omega arith))
 
   -- the length of pair k
   pub pair-length : (F : List (List A)) (k : ℕ) → k < length F → getD (pairsFrom 0 F) (2 * k + 1) 0 ≡ length (getD F k [])
   pair-length F k h =
       let rest : List ℕ = length (flatten (take k F)) ∷ length (getD F k []) ∷ pairsFrom (length (flatten (take k F)) + length (getD F k [])) (drop (suc k) F) in
       ap (λ (l : List ℕ). getD l (2 * k + 1) 0) (pairs-split F k h)
-      ∙ ap (λ (i : ℕ). getD (pairsFrom 0 (take k F) ++ rest) (i + 1) 0) (sym (pairs-before F k (omega arith)))
+      ∙ ap (λ (i : ℕ). getD (pairsFrom 0 (take k F) ++ rest) (i + 1) 0) (sym (pairs-before 0 F k (omega arith)))
       ∙ getD-append-add (pairsFrom 0 (take k F)) rest 1 0

@@ -6,7 +6,7 @@ use mathlib.Core.Logic.{⊎-elim}
 use Prim.Native.Nat.{ℕ, zero, suc, _+_, _-_, _≤_, _<_}
 use native.Mathlib.Omega.{arith}
 use lib.Dec.{T, eqb, eqb→eq, eqb-refl}
-use lib.ListN.{length, getD, take}
+use lib.ListN.{length, getD}
 use lib.Seq.{getD-append-add}
 use Rattle.prelude.specs.Tests.{T-eq, T-of, not-true-false, and-in, and-l, and-r, or-l, or-r, or-cases, le?, cond-true, cond-false}
 use Rattle.prelude.specs.Lists.{equalLists, anyFrom, allFrom, tab, firstOf, Each}
@@ -106,12 +106,6 @@ module _ {A : Type 0} where
       ap (λ (l : List A). f a ∷ l) (tab-more (suc a) n f)
       ∙ ap (λ (x : ℕ). f a ∷ (tab (suc a) n f ++ (f x ∷ []))) (let z : suc a + n ≡ a + suc n = omega arith in z)
 
-  -- the first values
-  pub take-tab : (a n k : ℕ) (f : ℕ → A) → k ≤ n → take k (tab a n f) ≡ tab a k f
-  take-tab a n zero f h = refl
-  take-tab a zero (suc k) f h = absurd (omega arith)
-  take-tab a (suc n) (suc k) f h = ap (λ (l : List A). f a ∷ l) (take-tab (suc a) n k f (omega arith))
-
   -- an entry of two lists joined, in the second
   pub getD-right : (a b : List A) (k : ℕ) (d : A) → length a ≤ k → getD (a ++ b) k d ≡ getD b (k - length a) d
   getD-right a b k d h =
@@ -170,6 +164,15 @@ module _ {A : Type 0} where
   pub each-join : (P : A → Type 0) (a b : List A) → Each P a → Each P b → Each P (a ++ b)
   each-join P [] b h g = g
   each-join P (x ∷ a) b h g = (h .0, each-join P a b (h .1) g)
+
+  -- and of what is joined it holds of each part
+  pub each-first : (P : A → Type 0) (a b : List A) → Each P (a ++ b) → Each P a
+  each-first P [] b h = tt
+  each-first P (x ∷ a) b h = (h .0, each-first P a b (h .1))
+
+  pub each-last : (P : A → Type 0) (a b : List A) → Each P (a ++ b) → Each P b
+  each-last P [] b h = h
+  each-last P (x ∷ a) b h = each-last P a b (h .1)
 
   -- and of each element of the one that a test takes
   pub each-cond : (P : A → Type 0) (t : Bool) (a b : List A) → (T t → Each P a) → (T (not t) → Each P b) → Each P (cond t a b)

@@ -1,6 +1,6 @@
 -- A literal's sign and variable, as an `i32` has them. Assumes nothing.
 use mathlib.Core.Path.{_≡_, refl, ap, _∙_}
-use mathlib.Core.Bool.{Bool, true, false}
+use mathlib.Core.Bool.{true, false}
 use Prim.Native.Nat.{ℕ, zero, suc, _<_, zero-le}
 use native.Mathlib.Omega.{arith}
 use lib.Dec.{T}

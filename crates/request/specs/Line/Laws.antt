@@ -3,13 +3,13 @@ use mathlib.Core.Path.{_≡_, refl, sym, ap, _∙_, subst}
 use mathlib.Core.Bool.{Bool, true, false, not, _&&_, _||_, cond}
 use mathlib.Core.List.{List, [], _∷_}
 use mathlib.Core.Logic.{⊎-elim}
-use Prim.Native.Nat.{ℕ, zero, suc, _+_, _-_, _*_, _/_, _%_, _^_, _≤_, _<_}
-use native.Mathlib.Nat.{div-one, two-pow-succ}
-use native.Mathlib.Numerals.{add-one, one-add}
+use Prim.Native.Nat.{ℕ, zero, suc, _+_, _-_, _*_, _^_, _≤_, _<_}
+use native.Mathlib.Nat.{two-pow-succ}
+use native.Mathlib.Numerals.{add-one}
 use native.Mathlib.Omega.{arith}
 use lib.Dec.{T, eqb, leb, ltb, leb→le, ltb→lt, nltb→le, eqb→eq}
 use lib.ListN.{length, getD, drop, drop-of-length-le}
-use lib.Pow.{pow-pos, pow-mono, shr-shr}
+use lib.Pow.{pow-pos, pow-mono}
 use lib.Seq.{drop-cons, getD-drop}
 use borrow.Author.Tests.{lt-ltb, le-ltb, le-leb, lt-leb, eq-eqb, ne-eqb, not-true, not-false}
 use Rattle.prelude.specs.Tests.{T-eq, T-of, not-true-false, and-in, and-l, and-r, or-l, or-r, or-cases, eq→eqb, eq?, le?}
@@ -18,8 +18,8 @@ use Rattle.prelude.specs.Lists.Laws.{all-in, all-out}
 use Rattle.request.specs.declared.Request.{Request}
 use Rattle.request.specs.declared.Reading.{Reading}
 use Rattle.request.specs.declared.Reading.the-variants.{Taken, Refused}
-use Rattle.request.specs.Line.{numberOf, valuesOf, digit, digits, runEnd, endedBy, single, isTable, tableAt, numbersRefusal, requestAt, end1, end2, end3, end4, lineForm, requestNumber, requestIn, requestValues, requestOf, numbersOf, Run, Digits, Bits, Ends}
-use Rattle.request.specs.Numbers.{asked, Good}
+use Rattle.request.specs.Line.{numberOf, valuesOf, digit, digits, runEnd, endedBy, single, isTable, tableAt, numbersRefusal, requestAt, end1, end2, end3, end4, lineForm, requestNumber, requestIn, requestValues, readingBy, requestOf, numbersOf, Run, Digits, Bits, Ends}
+use Rattle.request.specs.Numbers.{inputsMost, switchesMost, seriesMost, rowsMost, asked, Good}
 
 -- a byte of a digit's numbers is a digit
 digit-yes : (b : ℕ) → 48 ≤ b → b ≤ 57 → digit b ≡ true
@@ -221,31 +221,12 @@ module _ (s : List ℕ) (end i : ℕ) where
       let y : suc (i - 1) ≡ i = omega arith in
       rw (z, y, ← e) (omega arith)
 
-  -- the last of at most 16 characters 0 or 1 give a number of 16 bits
-  pub table-word : (from : ℕ) → Bits s from end → from ≤ i → i ≤ end → end - from ≤ 16 → tableAt s i (end - i) < 65536
+  -- the last of at most as many characters 0 or 1 as rows give a number of as many bits
+  pub table-word : (from : ℕ) → Bits s from end → from ≤ i → i ≤ end → end - from ≤ rowsMost
+      → tableAt s i (end - i) < 2 ^ rowsMost
   table-word from b l h w =
-      let p : 2 ^ (end - i) ≤ 65536 = pow-mono {i = end - i} {j = 16} (omega arith) in
+      let p : 2 ^ (end - i) ≤ 2 ^ rowsMost = pow-mono {i = end - i} {j = rowsMost} (omega arith) in
       omega (arith, table-below s i (end - i) (record { each = λ j x y. b .each j (omega arith) (omega arith) }))
-
--- row j of the number is character j
-pub table-row : (s : List ℕ) (from k j : ℕ)
-    → ((i : ℕ) → from ≤ i → i < from + k → T (eqb (getD s i 0) 48 || eqb (getD s i 0) 49)) → j < k
-    → tableAt s from k / 2 ^ j % 2 ≡ getD s (from + j) 0 - 48
-unfolding tableAt
-table-row s from zero j b h = absurd (omega arith)
-table-row s from (suc k) zero b h =
-    let bits : Bits s from (from + suc k) = record { each = b } in
-    let e : from + 0 ≡ from = omega arith in
-    rw (e, div-one) (omega (arith, bits-byte bits from (omega arith) (omega arith)))
-table-row s from (suc k) (suc j) b h =
-    let bits : Bits s from (from + suc k) = record { each = b } in
-    let x : ℕ = getD s from 0 - 48 in
-    let t : ℕ = tableAt s (suc from) k in
-    let e : (x + 2 * t) / 2 ≡ t = omega (arith, bits-byte bits from (omega arith) (omega arith)) in
-    let f : (x + 2 * t) / 2 ^ suc j ≡ t / 2 ^ j =
-    ap (λ (i : ℕ). (x + 2 * t) / 2 ^ i) (sym (one-add j)) ∙ sym (shr-shr (x + 2 * t) 1 j) ∙ ap (λ (y : ℕ). y / 2 ^ j) e in
-    ap (λ (y : ℕ). y % 2) f ∙ table-row s (suc from) k j (λ i l u. b i (omega arith) (omega arith)) (omega arith)
-    ∙ ap (λ (i : ℕ). getD s i 0 - 48) (let z : suc from + j ≡ from + suc j = omega arith in z)
 
 module _ (s : List ℕ) (a b c d n : ℕ) (is-n : n ≡ single s 0 a) where
   -- n below 1
@@ -254,35 +235,36 @@ module _ (s : List ℕ) (a b c d n : ℕ) (is-n : n ≡ single s 0 a) where
   numbers-low h = rw (← is-n, lt-leb 1 n h)
 
   -- n above 4
-  pub numbers-high : 4 < n → numbersOf s a b c d ≡ Refused 2
+  pub numbers-high : inputsMost < n → numbersOf s a b c d ≡ Refused 2
   unfolding numbersOf numbersRefusal
-  numbers-high h = let l : 1 ≤ n = omega arith in rw (← is-n, le-leb 1 n l, lt-leb n 4 h)
+  numbers-high h = let l : 1 ≤ n = omega arith in rw (← is-n, le-leb 1 n l, lt-leb n inputsMost h)
 
   -- no table of 2^n characters
-  pub numbers-table : 1 ≤ n → n ≤ 4 → isTable s (a + 1) b n ≡ false → numbersOf s a b c d ≡ Refused 3
+  pub numbers-table : 1 ≤ n → n ≤ inputsMost → isTable s (a + 1) b n ≡ false → numbersOf s a b c d ≡ Refused 3
   unfolding numbersOf numbersRefusal
-  numbers-table l h t = rw (← is-n, le-leb 1 n l, le-leb n 4 h, t)
+  numbers-table l h t = rw (← is-n, le-leb 1 n l, le-leb n inputsMost h, t)
 
   -- r above 7
-  pub numbers-r : 1 ≤ n → n ≤ 4 → isTable s (a + 1) b n ≡ true → (r : ℕ) → r ≡ single s (b + 1) c → 7 < r
+  pub numbers-r : 1 ≤ n → n ≤ inputsMost → isTable s (a + 1) b n ≡ true → (r : ℕ) → r ≡ single s (b + 1) c → switchesMost < r
       → numbersOf s a b c d ≡ Refused 4
   unfolding numbersOf numbersRefusal
-  numbers-r l h t r is-r x = rw (← is-n, le-leb 1 n l, le-leb n 4 h, t, ← is-r, lt-ltb 7 r x)
+  numbers-r l h t r is-r x = rw (← is-n, le-leb 1 n l, le-leb n inputsMost h, t, ← is-r, lt-ltb switchesMost r x)
 
   -- M above 7
-  pub numbers-m : 1 ≤ n → n ≤ 4 → isTable s (a + 1) b n ≡ true → (r : ℕ) → r ≡ single s (b + 1) c → r ≤ 7
-      → (m : ℕ) → m ≡ single s (c + 1) d → 7 < m → numbersOf s a b c d ≡ Refused 5
+  pub numbers-m : 1 ≤ n → n ≤ inputsMost → isTable s (a + 1) b n ≡ true → (r : ℕ) → r ≡ single s (b + 1) c → r ≤ switchesMost
+      → (m : ℕ) → m ≡ single s (c + 1) d → seriesMost < m → numbersOf s a b c d ≡ Refused 5
   unfolding numbersOf numbersRefusal
   numbers-m l h t r is-r x m is-m y =
-      rw (← is-n, le-leb 1 n l, le-leb n 4 h, t, ← is-r, le-ltb 7 r x, ← is-m, lt-ltb 7 m y)
+      rw (← is-n, le-leb 1 n l, le-leb n inputsMost h, t, ← is-r, le-ltb switchesMost r x, ← is-m, lt-ltb seriesMost m y)
 
   -- four good numbers
-  pub numbers-good : 1 ≤ n → n ≤ 4 → isTable s (a + 1) b n ≡ true → (r : ℕ) → r ≡ single s (b + 1) c → r ≤ 7
-      → (m : ℕ) → m ≡ single s (c + 1) d → m ≤ 7 → (table : ℕ) → table ≡ tableAt s (a + 1) (b - (a + 1))
+  pub numbers-good : 1 ≤ n → n ≤ inputsMost → isTable s (a + 1) b n ≡ true → (r : ℕ) → r ≡ single s (b + 1) c → r ≤ switchesMost
+      → (m : ℕ) → m ≡ single s (c + 1) d → m ≤ seriesMost → (table : ℕ) → table ≡ tableAt s (a + 1) (b - (a + 1))
       → numbersOf s a b c d ≡ Taken (record { n = n; table = table; r = r; m = m })
   unfolding numbersOf numbersRefusal
   numbers-good l h t r is-r x m is-m y table is-table =
-      rw (← is-n, le-leb 1 n l, le-leb n 4 h, t, ← is-r, le-ltb 7 r x, ← is-m, le-ltb 7 m y, ← is-table)
+      rw (← is-n, le-leb 1 n l, le-leb n inputsMost h, t, ← is-r, le-ltb switchesMost r x)
+      (rw (← is-m, le-ltb seriesMost m y, ← is-table))
 
 module _ (s : List ℕ) (from end b : ℕ) (x : Bool) (is-end : end ≡ runEnd s from) (is-x : x ≡ endedBy s from end b) where
   -- a run that passes the test of its end
@@ -318,38 +300,20 @@ module _ {s : List ℕ} {a : ℕ} (first : Run s 0 a 32) where
           rw (← first .is-end, first .ended, ← second .is-end, second .ended, ← third .is-end, third .ended, e)
 
       module _ {d : ℕ} (fourth : Run s (c + 1) d 10) where
+        -- what follows the newline, and the numbers
+        form-read : requestOf s ≡ readingBy (cond (eqb (d + 1) (length s)) (numbersRefusal s a b c d) 1) (requestAt s a b c d)
+        unfolding requestOf requestNumber lineForm
+        form-read =
+            rw (← first .is-end, first .ended, ← second .is-end, second .ended, ← third .is-end, third .ended, ← fourth .is-end, fourth .ended)
+
         -- bytes after the newline
         pub form-longer : (d + 1 ≡ length s → ⊥) → requestOf s ≡ Refused 1
-        unfolding requestOf requestNumber lineForm
-        form-longer h =
-            rw (
-              ← first .is-end,
-              first .ended,
-              ← second .is-end,
-              second .ended,
-              ← third .is-end,
-              third .ended,
-              ← fourth .is-end,
-              fourth .ended,
-              ne-eqb (d + 1) (length s) h,
-            )
+        form-longer h = form-read ∙ rw (ne-eqb (d + 1) (length s) h)
 
         -- the line's form: what its numbers give
         pub form-line : d + 1 ≡ length s → (x : Reading) → x ≡ numbersOf s a b c d → requestOf s ≡ x
-        unfolding requestOf requestNumber lineForm numbersOf
-        form-line h x e =
-            rw (
-              e,
-              ← first .is-end,
-              first .ended,
-              ← second .is-end,
-              second .ended,
-              ← third .is-end,
-              third .ended,
-              ← fourth .is-end,
-              fourth .ended,
-              eq-eqb (d + 1) (length s) h,
-            )
+        unfolding numbersOf
+        form-line h x e = form-read ∙ rw (e, eq-eqb (d + 1) (length s) h)
 
         -- where the four runs are
         pub form-ends : Ends s a b c d
@@ -414,17 +378,17 @@ numbers-taken s a b c d e =
     let n = single s 0 a in
     let r = single s (b + 1) c in
     let m = single s (c + 1) d in
-    let e1 = past-refusal (not (leb 1 n && leb n 4)) 1 _ e in
+    let e1 = past-refusal (not (leb 1 n && leb n inputsMost)) 1 _ e in
     let e2 = past-refusal (not (isTable s (a + 1) b n)) 2 _ (e1 .1) in
-    let e3 = past-refusal (ltb 7 r) 3 _ (e2 .1) in
-    let e4 = past-refusal (ltb 7 m) 4 _ (e3 .1) in
-    let nn : T (leb 1 n && leb n 4) = twice (leb 1 n && leb n 4) (e1 .0) in
+    let e3 = past-refusal (ltb switchesMost r) 3 _ (e2 .1) in
+    let e4 = past-refusal (ltb seriesMost m) 4 _ (e3 .1) in
+    let nn : T (leb 1 n && leb n inputsMost) = twice (leb 1 n && leb n inputsMost) (e1 .0) in
     record {
-      n-low = leb→le 1 n (and-l (leb 1 n) (leb n 4) nn);
-      n-high = leb→le n 4 (and-r (leb 1 n) (leb n 4) nn);
+      n-low = leb→le 1 n (and-l (leb 1 n) (leb n inputsMost) nn);
+      n-high = leb→le n inputsMost (and-r (leb 1 n) (leb n inputsMost) nn);
       table-low = table-fits s (a + 1) b n (T-eq (isTable s (a + 1) b n) (twice (isTable s (a + 1) b n) (e2 .0)));
-      r-high = nltb→le 7 r (e3 .0);
-      m-high = nltb→le 7 m (e4 .0);
+      r-high = nltb→le switchesMost r (e3 .0);
+      m-high = nltb→le seriesMost m (e4 .0);
     }
   where
     twice : (t : Bool) → T (not (not t)) → T t

@@ -1,4 +1,5 @@
 -- Each test that fails is one that the definition makes; past all of them the literal is there. Assumes nothing.
+use Rattle.request.specs.Numbers.{inputsMost}
 use Rattle.rows.specs.Rows.Laws.{literal-there, no-inputs, many-inputs, no-row, no-literal, one-shifted}
 use Prim.Native.Nat.{_^_}
 use mathlib.Core.Path.{sym, _∙_}
@@ -28,13 +29,13 @@ mul-if4 c = search needs
 row-there : (c : tie.Then4) → c .before .before .before .before .args .k < 2 ^ c .before .before .before .before .args .n
 row-there c =
     let n = c .before .before .before .before .args .n in
-    let h : n ≤ 4 = omega arith in
+    let h : n ≤ inputsMost = omega arith in
     rw (one-shifted n 32 (omega arith)) at (c .before .if3 .left)
 
 row-within : (c : tie.Else4) → c .before .before .before .before .args .k < 2 ^ c .before .before .before .before .args .n
 row-within c =
     let n = c .before .before .before .before .args .n in
-    let h : n ≤ 4 = omega arith in
+    let h : n ≤ inputsMost = omega arith in
     rw (one-shifted n 32 (omega arith)) at (c .before .if3 .left)
 
 returns-4 : tie.Need-returns-4

@@ -1,4 +1,5 @@
--- A table has 16 bits, so there is no row above 15; below that the shift is the definition. Assumes nothing.
+-- A table has as many bits as there may be rows; below them the shift is the definition. Assumes nothing.
+use Rattle.request.specs.Numbers.{rowsMost}
 use Rattle.rows.specs.Rows.Laws.{bit-none}
 use native.Mathlib.Nat.{lt-of-lt-of-le}
 use lib.Pow.{pow-mono}
@@ -9,7 +10,9 @@ use Rattle.rows.proofs.row_on.Statement.{statement}
 use Rattle.rows.proofs.row_on.Tie as tie
 
 returns : tie.Need-returns
-returns c = sym (bit-none (c .before .args .table) (c .before .args .k) (lt-of-lt-of-le (c .before .fits .table .fits) (pow-mono {i = 16} (omega arith))))
+returns c =
+    let s = c .before in
+    sym (bit-none (s .args .table) (s .args .k) (lt-of-lt-of-le (s .fits .table .fits) (pow-mono {i = rowsMost} (omega arith))))
 
 shr-result : tie.Need-shr-result
 shr-result c = search needs

@@ -1,24 +1,61 @@
 -- Laws of rows: on rows by the count of ones, and the rule of the table of input rows. Assumes nothing.
 use mathlib.Core.Path.{_≡_, refl, sym, ap, _∙_, subst}
-use mathlib.Core.Bool.{Bool, true, false, not, cond}
-use mathlib.Core.List.{List, []}
+use mathlib.Core.Bool.{Bool, false, not}
 use Prim.Native.Nat.{ℕ, zero, suc, _+_, _-_, _*_, _/_, _%_, _^_, _<_, _≤_}
-use native.Mathlib.Nat.{mod-one, mod-lt, mod-eq-of-lt, div-eq-of-lt, add-comm, not-suc-le-zero, le-of-suc-le-suc, one-mul, lt-of-lt-of-le}
+use native.Mathlib.Nat.{mod-one, mod-lt, mod-eq-of-lt, div-eq-of-lt, div-one, pow-suc, add-comm, not-suc-le-zero, le-of-suc-le-suc, one-mul, lt-of-lt-of-le}
 use native.Mathlib.Numerals.{one-add}
 use native.Mathlib.Omega.{arith}
 use borrow.Author.Tests.{lt-ltb, le-ltb, le-leb, lt-leb}
 use lib.Count.{ones, ones-cat}
-use lib.Dec.{T, eqb, eqb→eq, lit<}
+use lib.Dec.{eqb, eqb→eq, lit<}
 use lib.ListN.{length, getD}
-use lib.Pow.{mod-pow-add, pow-pos, pow-lt, pow-mono}
+use lib.Pow.{mod-pow-add, mod-mod-pow, shr-shr, high, low, field, pow-pos, pow-lt, pow-mono}
 use Rattle.prelude.specs.Finite.{below, below-at}
-use Rattle.prelude.specs.Lists.{tab}
 use Rattle.prelude.specs.Lists.Laws.{length-tab, getD-tab}
+use Rattle.request.specs.Numbers.{inputsMost}
 use Rattle.rows.specs.Rows.{bit, onBelow, inputTable, inputRows, literalOn, literalValue, Row, rowAt, rowsOf}
 
 -- a number has no bit at k or above it where it is below 2^k
 pub bit-none : (x k : ℕ) → x < 2 ^ k → bit x k ≡ false
 bit-none x k h = ap (λ (y : ℕ). eqb (y % 2) 1) (div-eq-of-lt h)
+
+-- two numbers of n bits as one of 2n: its upper bits
+pub bit-upper : (a c n i : ℕ) → c < 2 ^ n → bit (a * 2 ^ n + c) (n + i) ≡ bit a i
+bit-upper a c n i h =
+    ap (λ (y : ℕ). eqb (y % 2) 1) (sym (shr-shr (a * 2 ^ n + c) n i) ∙ ap (λ (y : ℕ). y / 2 ^ i) (high a n h))
+
+-- and its lower bits
+pub bit-lower : (a c n i : ℕ) → c < 2 ^ n → i < n → bit (a * 2 ^ n + c) i ≡ bit c i
+bit-lower a c n i h l =
+    let x : ℕ = a * 2 ^ n + c in
+    let e : (n - (1 + i)) + (1 + i) ≡ n = omega arith in
+    let f : x % 2 ^ (1 + i) ≡ c % 2 ^ (1 + i) =
+    sym (mod-mod-pow x (n - (1 + i)) (1 + i)) ∙ ap (λ (m : ℕ). x % 2 ^ m % 2 ^ (1 + i)) e
+    ∙ ap (λ (y : ℕ). y % 2 ^ (1 + i)) (low a n h) in
+    ap (λ (y : ℕ). eqb y 1) (sym (field x 1 i) ∙ ap (λ (y : ℕ). y / 2 ^ i) f ∙ field c 1 i)
+
+-- a digit and that of what is left to all ones
+complement-digit : (n k i : ℕ) → i < n → k < 2 ^ n → (2 ^ n - 1 - k) / 2 ^ i % 2 + k / 2 ^ i % 2 ≡ 1
+complement-digit zero k i l h = absurd (omega arith)
+complement-digit (suc n) k zero l h =
+    let e = pow-suc 2 n in
+    let f = div-one (2 ^ suc n - 1 - k) in
+    let g = div-one k in
+    omega arith
+complement-digit (suc n) k (suc i) l h =
+    let e = pow-suc 2 n in
+    let half : (2 ^ suc n - 1 - k) / 2 ≡ 2 ^ n - 1 - k / 2 = omega arith in
+    let next : (x : ℕ) → x / 2 ^ suc i ≡ x / 2 / 2 ^ i = λ x. ap (λ (m : ℕ). x / 2 ^ m) (sym (one-add i)) ∙ sym (shr-shr x 1 i) in
+    rw (next (2 ^ suc n - 1 - k), next k, half) (complement-digit n (k / 2) i (omega arith) (omega arith))
+
+-- a bit and that of what is left to all ones
+pub bit-complement : (n k i : ℕ) → i < n → k < 2 ^ n → bit (2 ^ n - 1 - k) i ≡ not (bit k i)
+bit-complement n k i l h = go ((2 ^ n - 1 - k) / 2 ^ i % 2) (k / 2 ^ i % 2) (complement-digit n k i l h)
+  where
+    go : (x y : ℕ) → x + y ≡ 1 → eqb x 1 ≡ not (eqb y 1)
+    go x zero e = rw (let z : x ≡ 1 = omega arith in z)
+    go x (suc zero) e = rw (let z : x ≡ 0 = omega arith in z)
+    go x (suc (suc y)) e = absurd (omega arith)
 
 -- the ones of a digit
 digit-ones : (d : ℕ) → d < 2 → ones d ≡ d
@@ -55,56 +92,57 @@ ruled : ℕ → ℕ → ℕ → Bool
 ruled i v k = eqb (inputRows (i + 1) v / 2 ^ k % 2) (k / 2 ^ (i - v) % 2)
 
 -- bit k of the entry for input v is the input's bit of k: one computation over the whole table
-input-rule : (i v k : ℕ) → i < 4 → v < i + 1 → k < 2 ^ (i + 1) → inputRows (i + 1) v / 2 ^ k % 2 ≡ k / 2 ^ (i - v) % 2
+input-rule : (i v k : ℕ) → i < inputsMost → v < i + 1 → k < 2 ^ (i + 1) → inputRows (i + 1) v / 2 ^ k % 2 ≡ k / 2 ^ (i - v) % 2
 unfolding ruled inputRows inputTable
 input-rule i v k hi hv hk =
     eqb→eq (inputRows (i + 1) v / 2 ^ k % 2) (k / 2 ^ (i - v) % 2)
     (below-at (2 ^ (i + 1)) (ruled i v)
     (below-at (i + 1) (λ v. below (2 ^ (i + 1)) (ruled i v))
-    (below-at 4 (λ i. below (i + 1) (λ v. below (2 ^ (i + 1)) (ruled i v))) tt i hi)
+    (below-at inputsMost (λ i. below (i + 1) (λ v. below (2 ^ (i + 1)) (ruled i v))) tt i hi)
     v hv)
     k hk)
 
 -- the rows on which input v is 1 are those whose bit n - 1 - v is 1
-pub input-bit : (n v k : ℕ) → 1 ≤ n → n ≤ 4 → v < n → k < 2 ^ n → bit (inputRows n v) k ≡ bit k (n - 1 - v)
+pub input-bit : (n v k : ℕ) → 1 ≤ n → n ≤ inputsMost → v < n → k < 2 ^ n → bit (inputRows n v) k ≡ bit k (n - 1 - v)
 input-bit n v k low high hv hk =
     let e : n - 1 + 1 ≡ n = omega arith in
     let rule = input-rule (n - 1) v k (omega arith) (omega arith) (subst (λ (m : ℕ). k < 2 ^ m) (sym e) hk) in
     ap (λ (x : ℕ). eqb x 1) (ap (λ (m : ℕ). inputRows m v / 2 ^ k % 2) (sym e) ∙ rule)
 
 -- a literal below n is an input
-pub literal-input : (n k v : ℕ) → 1 ≤ n → n ≤ 4 → k < 2 ^ n → v < n → bit (inputRows n v) k ≡ literalOn n k v
+pub literal-input : (n k v : ℕ) → 1 ≤ n → n ≤ inputsMost → k < 2 ^ n → v < n → bit (inputRows n v) k ≡ literalOn n k v
 unfolding literalOn
 literal-input n k v low high hk hv = rw (lt-ltb v n hv) (input-bit n v k low high hv hk)
 
 -- any other literal is the complement of one
-pub literal-complement : (n k v : ℕ) → 1 ≤ n → n ≤ 4 → k < 2 ^ n → n ≤ v → v < 2 * n → not (bit (inputRows n (v - n)) k) ≡ literalOn n k v
+pub literal-complement : (n k v : ℕ) → 1 ≤ n → n ≤ inputsMost → k < 2 ^ n → n ≤ v → v < 2 * n
+    → not (bit (inputRows n (v - n)) k) ≡ literalOn n k v
 unfolding literalOn
 literal-complement n k v low high hk hl hv =
     let e : n - 1 - (v - n) ≡ 2 * n - 1 - v = omega arith in
     rw (le-ltb v n hl) (ap not (input-bit n (v - n) k low high (omega arith) hk ∙ ap (bit k) e))
 
 -- where there is such a literal and row, the value is the literal's
-pub literal-there : (n k v : ℕ) → 1 ≤ n → n ≤ 4 → k < 2 ^ n → v < 2 * n → literalValue n k v ≡ literalOn n k v
+pub literal-there : (n k v : ℕ) → 1 ≤ n → n ≤ inputsMost → k < 2 ^ n → v < 2 * n → literalValue n k v ≡ literalOn n k v
 unfolding literalValue
-literal-there n k v low high hk hv = rw (le-leb 1 n low, le-leb n 4 high, lt-ltb k (2 ^ n) hk, lt-ltb v (2 * n) hv)
+literal-there n k v low high hk hv = rw (le-leb 1 n low, le-leb n inputsMost high, lt-ltb k (2 ^ n) hk, lt-ltb v (2 * n) hv)
 
 -- elsewhere it is false: by n, by the row, by the literal
 pub no-inputs : (n k v : ℕ) → n < 1 → false ≡ literalValue n k v
 unfolding literalValue
 no-inputs n k v h = rw (lt-leb 1 n h)
 
-pub many-inputs : (n k v : ℕ) → 1 ≤ n → 4 < n → false ≡ literalValue n k v
+pub many-inputs : (n k v : ℕ) → 1 ≤ n → inputsMost < n → false ≡ literalValue n k v
 unfolding literalValue
-many-inputs n k v low h = rw (le-leb 1 n low, lt-leb n 4 h)
+many-inputs n k v low h = rw (le-leb 1 n low, lt-leb n inputsMost h)
 
-pub no-row : (n k v : ℕ) → 1 ≤ n → n ≤ 4 → 2 ^ n ≤ k → false ≡ literalValue n k v
+pub no-row : (n k v : ℕ) → 1 ≤ n → n ≤ inputsMost → 2 ^ n ≤ k → false ≡ literalValue n k v
 unfolding literalValue
-no-row n k v low high h = rw (le-leb 1 n low, le-leb n 4 high, le-ltb k (2 ^ n) h)
+no-row n k v low high h = rw (le-leb 1 n low, le-leb n inputsMost high, le-ltb k (2 ^ n) h)
 
-pub no-literal : (n k v : ℕ) → 1 ≤ n → n ≤ 4 → k < 2 ^ n → 2 * n ≤ v → false ≡ literalValue n k v
+pub no-literal : (n k v : ℕ) → 1 ≤ n → n ≤ inputsMost → k < 2 ^ n → 2 * n ≤ v → false ≡ literalValue n k v
 unfolding literalValue
-no-literal n k v low high hk h = rw (le-leb 1 n low, le-leb n 4 high, lt-ltb k (2 ^ n) hk, le-ltb v (2 * n) h)
+no-literal n k v low high hk h = rw (le-leb 1 n low, le-leb n inputsMost high, lt-ltb k (2 ^ n) hk, le-ltb v (2 * n) h)
 
 -- a table of n inputs has 2^n rows
 pub rows-length : (n table : ℕ) → length (rowsOf n table) ≡ 2 ^ n

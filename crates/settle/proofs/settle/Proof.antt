@@ -13,12 +13,12 @@ use Rattle.network.specs.Check.{checkedOf}
 use Rattle.answer.specs.declared.Decoded.{Decoded}
 use Rattle.answer.specs.Reading.{readingOf}
 use Rattle.lrat.specs.declared.Checked.{Checked as Ended}
-use Rattle.refutation.specs.Refutation.{Lent, lent, checkAnswer, checkLeaves}
+use Rattle.lrat_check.specs.Refutation.{Lent, lent, checkAnswer, checkLeaves}
 use Rattle.settle.specs.declared.Settlement.{Settlement}
 use Rattle.settle.specs.declared.Verdict.{Verdict}
 use Rattle.settle.specs.declared.Verdict.the-variants.{Least}
 use Rattle.network.specs.Least.{LeastFor}
-use Rattle.settle.specs.Settle.{verdictNumber, verdictValues, smaller, outcomeVerdict, verdictBelow, refusedWith, judged, settleNumber, settleValues, settlement, leavesBelow, leftBy, settleLeaves}
+use Rattle.settle.specs.Settle.{verdictNumber, verdictValues, smaller, outcomeVerdict, verdictBelow, refusedWith, judged, settleNumber, settleValues, settlement, leavesBelow, slicesAfter, settleLeaves}
 use Rattle.settle.specs.Settle.Numbers.{settle-number, settle-values}
 use Rattle.settle.specs.Settle.Laws.{Settles, settles-refused, settles-judged, below-zero, below-more}
 use Rattle.settle.specs.Settle.Meaning.{least-for}
@@ -64,7 +64,7 @@ module _ (q : Request) (answer refutation : List ℕ) (literals : List ℤ) (pai
     -- what the check of its network gave
     module _ (ok : d .refusal ≡ 0) (c : Checked) (c-is : c ≡ checkedOf q (d .network)) where
       is-judged : (x : Settlement) (l : Lent) (k : Checked) → c ≡ k → x ≡ judged k (verdictBelow q refutation before) (d .network)
-          → l ≡ leftBy k before (leavesBelow q refutation before) → Answer x l
+          → l ≡ slicesAfter k before (leavesBelow q refutation before) → Answer x l
       is-judged x l k e f g =
           let n = ap (λ (y : Decoded). y .network) d-is in
           let s = settles-judged q answer refutation before (ap (λ (y : Decoded). y .refusal) (sym d-is) ∙ ok) k
@@ -119,20 +119,20 @@ refused-requires-2 c κs = search needs
 enum-known-checked-2 : tie.Need-enum-known-checked-2
 enum-known-checked-2 c = search needs
 
-told-requires : tie.Need-told-requires
-told-requires c κs = search needs
+with-network-requires : tie.Need-with-network-requires
+with-network-requires c κs = search needs
 
 enum-told : tie.Need-enum-told
 enum-told c = search needs
 
-told-requires-2 : tie.Need-told-requires-2
-told-requires-2 c κs = search needs
+with-network-requires-2 : tie.Need-with-network-requires-2
+with-network-requires-2 c κs = search needs
 
 returns-2 : tie.Need-returns-2
 returns-2 c = let i = c .before in let t = i .before .before in let k = t .before .before in let a = reading k in let s = entry a in
     is-zero (s .args .q) (s .args .answer .now) (s .args .refutation .now) (s .args .literals .now) (s .args .pairs .now)
     (s .args .added .now) (s .args .values .now) _ (a .read-answer .ensures) (k .before .before .if1 .left) _ (k .check-network .ensures .0)
-    (t .enum-told .given .1) (omega (arith, i .if2 .taken)) _ (c .told2 .ensures)
+    (t .enum-told .given .1) (omega (arith, i .if2 .taken)) _ (c .with-network2 .ensures)
 
 one-fewer-requires : tie.Need-one-fewer-requires
 one-fewer-requires c κs = search needs
@@ -143,8 +143,8 @@ check-requires c κs = search needs
 verdict-of-requires : tie.Need-verdict-of-requires
 verdict-of-requires c κs = search needs
 
-told-requires-3 : tie.Need-told-requires-3
-told-requires-3 c κs = search needs
+with-network-requires-3 : tie.Need-with-network-requires-3
+with-network-requires-3 c κs = search needs
 
 returns-3 : tie.Need-returns-3
 returns-3 c = let t = c .before .before in let k = t .before .before in let a = reading k in let s = entry a in
@@ -156,7 +156,7 @@ returns-4 : tie.Need-returns-4
 returns-4 c = let t = c .before .before in let k = t .before .before in let a = reading k in let s = entry a in
     is-judged (s .args .q) (s .args .answer .now) (s .args .refutation .now) (s .args .literals .now) (s .args .pairs .now)
     (s .args .added .now) (s .args .values .now) _ (a .read-answer .ensures) (k .before .before .if1 .left) _ (k .check-network .ensures .0)
-    _ _ _ (t .checked2 .given .1) (c .told .ensures) refl
+    _ _ _ (t .checked2 .given .1) (c .with-network .ensures) refl
 
 same-length : tie.Need-same-length
 same-length c = search needs
@@ -177,7 +177,7 @@ returns-5 c = let v = c .before in let h = v .before .before .before .before .be
     is-more (s .args .q) (s .args .answer .now) (s .args .refutation .now) (s .args .literals .now) (s .args .pairs .now)
     (s .args .added .now) (s .args .values .now) _ (a .read-answer .ensures) (k .before .before .if1 .left) _ (k .check-network .ensures .0)
     (t .enum-told .given .1) (λ z. omega (arith, e .if2 .left))
-    _ (o .one-fewer .ensures) _ (h .check .ensures .0) _ (h .check .ensures .1 .0) _ (v .verdict-of .ensures) _ (c .told3 .ensures)
+    _ (o .one-fewer .ensures) _ (h .check .ensures .0) _ (h .check .ensures .1 .0) _ (v .verdict-of .ensures) _ (c .with-network3 .ensures)
 
 pub settle-spec : {M : Type 1} → statement M
 settle-spec =
@@ -190,14 +190,14 @@ settle-spec =
     enum-known-checked
     refused-requires-2
     enum-known-checked-2
-    told-requires
+    with-network-requires
     enum-told
-    told-requires-2
+    with-network-requires-2
     returns-2
     one-fewer-requires
     check-requires
     verdict-of-requires
-    told-requires-3
+    with-network-requires-3
     returns-3
     returns-4
     same-length

@@ -8,10 +8,10 @@ use Rattle.network.specs.declared.Network.{Network}
 use Rattle.network.specs.declared.Checked.{Checked}
 use Rattle.network.specs.Check.{checkedOf}
 use Rattle.answer.specs.Reading.{readingOf}
-use Rattle.refutation.specs.Refutation.{Lent, checkAnswer, checkLeaves}
+use Rattle.lrat_check.specs.Refutation.{Lent, checkAnswer, checkLeaves}
 use Rattle.settle.specs.declared.Settlement.{Settlement}
 use Rattle.settle.specs.declared.Verdict.the-variants.{Least}
-use Rattle.settle.specs.Settle.{smaller, outcomeVerdict, verdictBelow, refusedWith, judged, settlement, leavesBelow, leftBy, settleLeaves}
+use Rattle.settle.specs.Settle.{smaller, outcomeVerdict, verdictBelow, refusedWith, judged, settlement, leavesBelow, slicesAfter, settleLeaves}
 
 module _ (q : Request) (refutation : List ℕ) (s : Lent) where
   -- the verdict and the slices where the network does the job, at k = 0
@@ -43,6 +43,6 @@ module _ (q : Request) (answer refutation : List ℕ) (s : Lent) where
   module _ (taken : readingOf q answer .refusal ≡ 0) where
     -- an answer that is taken, by the check of its network
     pub settles-judged : (c : Checked) → c ≡ checkedOf q read
-        → Settles (judged c (verdictBelow q refutation s) read) (leftBy c s (leavesBelow q refutation s))
+        → Settles (judged c (verdictBelow q refutation s) read) (slicesAfter c s (leavesBelow q refutation s))
     unfolding settlement settleLeaves
     settles-judged c e = let n = eq-eqb (readingOf q answer .refusal) 0 taken in record { says = rw (n, e); leaves = rw (n, e) }

@@ -16,8 +16,8 @@ use Rattle.answer.specs.Reading.{readingOf}
 use Rattle.lrat.specs.Outcome.{outcomeNumber}
 use Rattle.lrat.specs.declared.Outcome.{Outcome}
 use Rattle.lrat.specs.declared.Outcome.the-variants.{None, Refused as outcomeRefused}
-use Rattle.refutation.specs.Refutation.{Lent, checkAnswer}
-use Rattle.refutation.specs.Refutation.Laws.{answer-number, answer-numbered}
+use Rattle.lrat_check.specs.Refutation.{Lent, checkAnswer}
+use Rattle.lrat_check.specs.Refutation.Laws.{answer-number, answer-numbered}
 use Rattle.settle.specs.declared.Settlement.{Settlement}
 use Rattle.settle.specs.declared.Verdict.{Verdict}
 use Rattle.settle.specs.declared.Verdict.the-variants.{Least, Works, Fails, Refused}

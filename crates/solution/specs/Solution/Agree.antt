@@ -13,15 +13,18 @@ use Rattle.prelude.specs.Lists.{tab, firstOf, Each}
 use Rattle.prelude.specs.Lists.Laws.{each-out}
 use Rattle.cnf.specs.Cnf.{Assignment, Clause, Formula, clauseHolds, Sat}
 use Rattle.request.specs.declared.Request.{Request}
-use Rattle.request.specs.Numbers.{Good}
+use Rattle.request.specs.Numbers.{switchesMost, Good}
 use Rattle.formula.specs.Formula.{terminals, X, L, transitivity, choices, formula, formulaOf}
 use Rattle.formula.specs.Formula.Range.{ClauseIn, joined-in, chosen-in, transitivity-in, choices-in}
 use Rattle.formula.specs.Number.{clauseOf}
 use Rattle.formula.specs.Number.Laws.{clause-good, in-nets, in-choices}
 use Rattle.answer.specs.Values.{kept}
 use Rattle.answer.specs.Decode.{lowest, literalFor, labelFor, decoded}
-use Rattle.answer.specs.Decode.Meaning.{Sat-split}
 use Rattle.cnf.specs.Cnf.Laws.{sat-at}
+use Rattle.network.specs.Value.{terminalsMost}
+use Rattle.formula.specs.Count.{networkCount}
+use Rattle.formula.specs.Count.Laws.{network-length}
+use Rattle.cnf.specs.Cnf.Parts.{Sat-split}
 
 -- ---- lists made of functions that agree
 tab-same : {A : Type 0} (a n : ℕ) (f g : ℕ → A) → ((i : ℕ) → a ≤ i → i < a + n → f i ≡ g i) → tab a n f ≡ tab a n g
@@ -60,23 +63,23 @@ module _ (top : ℕ) (α β : Assignment) (agree : (x : ℕ) → 1 ≤ x → x �
 -- ---- a request's
 module _ (q : Request) (good : Good q) (α β : Assignment) (agree : (x : ℕ) → 1 ≤ x → x ≤ kept (q .n) (q .r) → α x ≡ β x) where
   -- the clauses of groups 1 and 2
-  pub groups-kept : Sat β (formulaOf q) → (k : ℕ) → k < length (transitivity (q .r)) + length (choices (q .n) (q .r))
+  pub groups-kept : Sat β (formulaOf q) → (k : ℕ) → k < networkCount (q .n) (q .r)
       → clauseHolds α (clauseOf q k) ≡ true
   unfolding formulaOf formula
   groups-kept s k h =
-      let one = Sat-split β (transitivity (q .r)) _ s in
-      let two = Sat-split β (choices (q .n) (q .r)) _ (one .1) in
-      ⊎-elim (λ (l : length (transitivity (q .r)) ≤ k).
-      let j : ℕ = k - length (transitivity (q .r)) in
-      let i : j < length (choices (q .n) (q .r)) = omega arith in
+      let one = Sat-split β (transitivity (terminals (q .r))) _ s in
+      let two = Sat-split β (choices (q .n) (terminals (q .r)) (q .r)) _ (one .1) in
+      ⊎-elim (λ (l : length (transitivity (terminals (q .r))) ≤ k).
+      let j : ℕ = k - length (transitivity (terminals (q .r))) in
+      let i : j < length (choices (q .n) (terminals (q .r)) (q .r)) = omega (arith, network-length (q .n) (q .r)) in
       ap (clauseHolds α) (clause-good q k good ∙ in-choices q k j (omega arith) i)
-      ∙ clause-kept keep α β agree (choices (q .n) (q .r)) (choices-in (q .n) (q .r) (q .m) keep (good .r-high) (omega arith))
+      ∙ clause-kept keep α β agree (choices (q .n) (terminals (q .r)) (q .r)) (choices-in (q .n) (q .r) (q .m) keep (omega arith))
       (two .0) j i)
-      (λ (l : k < length (transitivity (q .r))).
+      (λ (l : k < length (transitivity (terminals (q .r)))).
       ap (clauseHolds α) (clause-good q k good ∙ in-nets q k l)
-      ∙ clause-kept keep α β agree (transitivity (q .r)) (transitivity-in (q .n) (q .r) (q .m) keep (good .r-high) (omega arith))
+      ∙ clause-kept keep α β agree (transitivity (terminals (q .r))) (transitivity-in (q .n) (q .r) (q .m) keep (omega arith))
       (one .0) k l)
-      (le? (length (transitivity (q .r))) k)
+      (le? (length (transitivity (terminals (q .r)))) k)
     where
       keep : ℕ
       keep = kept (q .n) (q .r)
@@ -85,18 +88,18 @@ module _ (q : Request) (good : Good q) (α β : Assignment) (agree : (x : ℕ) �
   literal-same : (s : ℕ) → s < q .r → literalFor (q .n) (q .r) α s ≡ literalFor (q .n) (q .r) β s
   unfolding literalFor
   literal-same s h =
-      lowest-same (λ v. α (L (q .n) (q .r) s v)) (λ v. β (L (q .n) (q .r) s v)) (2 * q .n) (λ v l.
-      let w = chosen-in (q .n) (q .r) s v h l in agree (L (q .n) (q .r) s v) (w .0) (w .1))
+      lowest-same (λ v. α (L (q .n) (terminals (q .r)) s v)) (λ v. β (L (q .n) (terminals (q .r)) s v)) (2 * q .n) (λ v l.
+      let w = chosen-in (q .n) (terminals (q .r)) (q .r) s v h l in agree (L (q .n) (terminals (q .r)) s v) (w .0) (w .1))
 
   -- the labels
   label-same : (i : ℕ) → i < terminals (q .r) → labelFor (q .r) α i ≡ labelFor (q .r) β i
   unfolding labelFor
   label-same i h =
-      lowest-same (λ j. eqb j i || α (X (q .r) j i)) (λ j. eqb j i || β (X (q .r) j i)) (i + 1) (λ j l.
+      lowest-same (λ j. eqb j i || α (X (terminals (q .r)) j i)) (λ j. eqb j i || β (X (terminals (q .r)) j i)) (i + 1) (λ j l.
       ⊎-elim (λ (e : j ≡ i). rw (eq-eqb j i e))
       (λ (d : j ≡ i → ⊥).
-      let w = joined-in (q .r) j i (good .r-high) (omega arith) h d in
-      ap (λ (b : Bool). eqb j i || b) (agree (X (q .r) j i) (w .0) (omega (arith, w .1))))
+      let w = joined-in (terminals (q .r)) j i (omega arith) h d in
+      ap (λ (b : Bool). eqb j i || b) (agree (X (terminals (q .r)) j i) (w .0) (omega (arith, w .1))))
       (eq? j i))
 
   -- the network
@@ -104,6 +107,7 @@ module _ (q : Request) (good : Good q) (α β : Assignment) (agree : (x : ℕ) �
   unfolding decoded
   decoded-same =
       ap₂
-      (λ (x y : List ℕ). record { r = q .r; literals = x ++ replicate (7 - q .r) 0; labels = y ++ replicate (16 - (2 * q .r + 2)) 0 })
+      (λ (x y : List ℕ).
+      record { r = q .r; literals = x ++ replicate (switchesMost - q .r) 0; labels = y ++ replicate (terminalsMost - terminals (q .r)) 0 })
       (tab-same 0 (q .r) (literalFor (q .n) (q .r) α) (literalFor (q .n) (q .r) β) (λ s l u. literal-same s (omega arith)))
-      (tab-same 0 (2 * q .r + 2) (labelFor (q .r) α) (labelFor (q .r) β) (λ i l u. label-same i (omega arith)))
+      (tab-same 0 (terminals (q .r)) (labelFor (q .r) α) (labelFor (q .r) β) (λ i l u. label-same i (omega arith)))

@@ -11,8 +11,8 @@ use Rattle.cnf.specs.Cnf.{Assignment, Sat}
 use Rattle.request.specs.declared.Request.{Request}
 use Rattle.request.specs.Numbers.{Good, refusalOf}
 use Rattle.request.specs.Numbers.Laws.{refusal-good}
-use Rattle.formula.specs.Count.{variablesBefore, variableCount}
-use Rattle.formula.specs.Formula.{transitivity, choices, formulaOf}
+use Rattle.formula.specs.Count.{networkCount, valuesMost, variablesBefore, variableCount}
+use Rattle.formula.specs.Formula.{formulaOf}
 use Rattle.formula.specs.Formula.Range.{variables-most}
 use Rattle.numeral.specs.Number.{byteAt}
 use Rattle.text.specs.Text.{lineText}
@@ -31,14 +31,14 @@ use Rattle.solution.specs.Solution.Values.{truths-short, valuesTo, value
 use Rattle.solution.specs.Solution.Agree.{groups-kept, decoded-same}
 
 -- ---- the lines of the answer of the variables 1 to top, keep of which are kept
-module _ (α : Assignment) (top keep : ℕ) (low : top < 1000000000) (small : keep ≤ 176) (fits : keep ≤ top) where
+module _ (α : Assignment) (top keep : ℕ) (low : top < 1000000000) (small : keep ≤ valuesMost) (fits : keep ≤ top) where
   -- the answer
   abbrev t : List ℕ
   t = answerText top α
 
   -- no values
   abbrev none : List ℕ
-  none = replicate 176 0
+  none = replicate valuesMost 0
 
   -- the s line stands first
   first : drop 0 t ≡ solutionLine ++ (118 ∷ 32 ∷ lineText (truths top α))
@@ -109,7 +109,7 @@ solved-read q α e s =
     ∙ ap (ended q)
     (answer-lines α top keep (omega (arith, variables-most q good)) (kept-most (q .n) (q .r) (good .n-high) (good .r-high))
     (kept-within q))
-    ∙ sym (ended-taken q (gave 0 2 values) refl refl keep true refl (values-complete α keep) refl count true refl
+    ∙ sym (ended-taken q (gave 0 2 values) refl refl keep true refl (values-complete α keep) refl true
     (holding-all q count values (groups-kept q good (assigned values) α agree s)) refl (decoded (q .n) (q .r) α)
     (sym (decoded-same q good (assigned values) α agree)))
   where
@@ -123,7 +123,7 @@ solved-read q α e s =
     keep = kept (q .n) (q .r)
 
     count : ℕ
-    count = length (transitivity (q .r)) + length (choices (q .n) (q .r))
+    count = networkCount (q .n) (q .r)
 
     values : List ℕ
     values = valuesTo α keep

@@ -17,6 +17,7 @@ use Rattle.cnf.specs.declared.Literal.{Literal}
 use Rattle.answer.specs.Values.{named, namedOne, namedFrom, complete, assigned}
 use Rattle.answer.specs.Values.Laws.{one-other, one-kept, complete-all}
 use Rattle.answer.specs.Decode.Laws.{fill-more}
+use Rattle.formula.specs.Count.{valuesMost}
 use Rattle.solution.specs.Solution.{truth, truths}
 use Rattle.solution.specs.Solution.Numerals.{minusOf, endOf, Short}
 use Rattle.solution.specs.Solution.Line.{Spaced, line-after, named-after, named-end}
@@ -43,31 +44,32 @@ module _ (α : Assignment) where
 
   -- the values once those of the variables 1 to k are named
   unfoldable pub valuesTo : ℕ → List ℕ
-  valuesTo k = tab 0 k valueAt ++ replicate (176 - k) 0
+  valuesTo k = tab 0 k valueAt ++ replicate (valuesMost - k) 0
 
   -- none yet
-  pub values-none : replicate 176 0 ≡ valuesTo 0
+  pub values-none : replicate valuesMost 0 ≡ valuesTo 0
   unfolding valuesTo
   values-none = refl
 
   -- the next is unnamed
-  next-unnamed : (k : ℕ) → k < 176 → getD (valuesTo k) k 0 ≡ 0
+  next-unnamed : (k : ℕ) → k < valuesMost → getD (valuesTo k) k 0 ≡ 0
   unfolding valuesTo
   next-unnamed k h =
-      ap (λ (z : ℕ). getD (tab 0 k valueAt ++ replicate z 0) k 0) (let z : 176 - k ≡ suc (176 - (k + 1)) = omega arith in z)
-      ∙ getD-at (tab 0 k valueAt) 0 (replicate (176 - (k + 1)) 0) 0 k (length-tab 0 k valueAt)
+      let z : valuesMost - k ≡ suc (valuesMost - (k + 1)) = omega arith in
+      ap (λ (z : ℕ). getD (tab 0 k valueAt ++ replicate z 0) k 0) z
+      ∙ getD-at (tab 0 k valueAt) 0 (replicate (valuesMost - (k + 1)) 0) 0 k (length-tab 0 k valueAt)
 
   -- one more
-  next-named : (k : ℕ) → k < 176 → set (valuesTo k) k (valueAt k) ≡ valuesTo (suc k)
+  next-named : (k : ℕ) → k < valuesMost → set (valuesTo k) k (valueAt k) ≡ valuesTo (suc k)
   unfolding valuesTo
-  next-named k h = fill-more valueAt 176 k h ∙ ap (λ (z : ℕ). tab 0 z valueAt ++ replicate (176 - z) 0) (add-one k)
+  next-named k h = fill-more valueAt valuesMost k h ∙ ap (λ (z : ℕ). tab 0 z valueAt ++ replicate (valuesMost - z) 0) (add-one k)
 
   -- a value by its index
   value-named : (keep i : ℕ) → i < keep → getD (valuesTo keep) i 0 ≡ valueAt i
   unfolding valuesTo
   value-named keep i h =
       let n = length-tab 0 keep valueAt in
-      List·getD-append (tab 0 keep valueAt) (replicate (176 - keep) 0) 0 i (omega arith)
+      List·getD-append (tab 0 keep valueAt) (replicate (valuesMost - keep) 0) 0 i (omega arith)
       ∙ getD-tab 0 keep valueAt i 0 h ∙ ap valueAt (let z : 0 + i ≡ i = omega arith in z)
 
   -- none is missing
@@ -85,7 +87,7 @@ module _ (α : Assignment) where
       go true = refl
       go false = refl
 
-  module _ (top keep : ℕ) (small : keep ≤ 176) (fits : keep ≤ top) where
+  module _ (top keep : ℕ) (small : keep ≤ valuesMost) (fits : keep ≤ top) where
     -- c values are kept of the k variables that are named
     abbrev Kept : ℕ → ℕ → Type 0
     Kept k c = ((k ≤ keep) × (c ≡ k)) ⊎ ((keep ≤ k) × (c ≡ keep))

@@ -1,60 +1,32 @@
--- Laws of text: a literal, literals and a line as their parts one after the other, runs, and writing part by part. Assumes nothing.
-use mathlib.Core.Path.{_≡_, refl, sym, ap, _∙_}
-use mathlib.Core.Bool.{true, false}
-use mathlib.Core.List.{List, [], _∷_, _++_, append-assoc}
-use mathlib.Core.Logic.{⊎-elim}
+-- Laws of text: literals, a line and signed numbers as their parts one after the other, and how long they are. Assumes nothing.
+use mathlib.Core.Path.{_≡_, refl, sym, ap, ap₂, _∙_}
+use mathlib.Core.Bool.{Bool, true, false, cond}
+use mathlib.Core.List.{List, [], _∷_, _++_, map, map-append}
 use Prim.Native.Nat.{ℕ, zero, suc, _+_, _≤_, _<_}
 use native.Mathlib.Nat.{zero-add}
+use native.Mathlib.Numerals.{add-one}
 use native.Mathlib.Omega.{arith}
-use lib.ListN.{length, length-append}
-use Rattle.prelude.specs.Tests.{le?}
-use Rattle.prelude.specs.Lists.Laws.{each-out}
-use Rattle.prelude.specs.Blocks.{each, flatten}
-use Rattle.prelude.specs.Blocks.Laws.{each-more, each-room, singles-length, singles-at, flatten-one}
-use Rattle.cnf.specs.Cnf.{pos}
+use lib.IntN.{ℤ}
+use lib.ListN.{length, getD, take, drop, length-append, take-append-drop}
+use lib.Seq.{take-suc}
+use Rattle.prelude.specs.Blocks.{flatten}
+use Rattle.prelude.specs.Blocks.Laws.{flatten-one, flatten-append}
+use lib.IntN as Z
+use Rattle.prelude.specs.Lists.{Each}
+use Rattle.prelude.specs.Signed.{isNegative, variable}
+use Rattle.cnf.specs.Cnf.{pos, Clause, signedOf}
 use Rattle.cnf.specs.declared.Literal.{Literal}
-use Rattle.formula.specs.Clause.{run}
 use Rattle.text.specs.Decimal.{decimal}
-use Rattle.text.specs.Text.{literalText, literalsText, lineText, Low}
-
--- a positive literal
-pub positive-text : (l : Literal) → l .negative ≡ false → literalText l ≡ decimal (l .variable) ++ (32 ∷ [])
-unfolding literalText
-positive-text l e = rw e
-
--- a negative literal
-pub negative-text : (l : Literal) → l .negative ≡ true → literalText l ≡ (45 ∷ []) ++ (decimal (l .variable) ++ (32 ∷ []))
-unfolding literalText
-negative-text l e = rw e
+use Rattle.text.specs.Text.{literalText, literalsText, lineText, signedText, numberText, numbersText}
 
 -- a number and the space after it, in length
 pub number-length : (x : ℕ) → length (decimal x ++ (32 ∷ [])) ≡ length (decimal x) + 1
 number-length x = length-append (decimal x) (32 ∷ [])
 
--- a positive literal, in length
-pub positive-length : (l : Literal) → l .negative ≡ false → length (literalText l) ≡ length (decimal (l .variable)) + 1
-positive-length l e = ap length (positive-text l e) ∙ number-length (l .variable)
-
--- a negative one
-pub negative-length : (l : Literal) → l .negative ≡ true → length (literalText l) ≡ length (decimal (l .variable)) + 2
-negative-length l e = let n = ap length (negative-text l e) in let d = number-length (l .variable) in omega arith
-
--- literals one after the other
-pub literals-append : (a b : List Literal) → literalsText (a ++ b) ≡ literalsText a ++ literalsText b
-unfolding literalsText flatten
-literals-append [] b = refl
-literals-append (x ∷ a) b =
-    ap (λ (l : List ℕ). literalText x ++ l) (literals-append a b) ∙ sym (append-assoc (literalText x) (literalsText a) (literalsText b))
-
 -- no literal
 pub literals-none : literalsText [] ≡ []
 unfolding literalsText flatten
 literals-none = refl
-
--- a literal alone
-pub literals-one : (x : Literal) → literalsText (x ∷ []) ≡ literalText x
-unfolding literalsText
-literals-one x = flatten-one (literalText x)
 
 -- a literal before others
 pub literals-more : (x : Literal) (ls : List Literal) → literalsText (x ∷ ls) ≡ literalText x ++ literalsText ls
@@ -74,56 +46,62 @@ line-length ls = ap length (line-text ls) ∙ length-append (literalsText ls) (4
 pub literals-length : (x : Literal) (ls : List Literal) → length (literalsText (x ∷ ls)) ≡ length (literalText x) + length (literalsText ls)
 literals-length x ls = ap length (literals-more x ls) ∙ length-append (literalText x) (literalsText ls)
 
--- a run of no variable
-pub run-none : (first : ℕ) → literalsText (run first 0) ≡ []
-unfolding run literalsText flatten each
-run-none first = refl
+-- a sign and a number, in length
+pub signed-length : (b : Bool) (x : ℕ) → length (signedText b x) ≡ cond b 1 0 + (length (decimal x) + 1)
+signed-length true x = length-append (45 ∷ []) (decimal x ++ (32 ∷ [])) ∙ ap (λ (n : ℕ). 1 + n) (number-length x)
+signed-length false x = number-length x ∙ sym (zero-add _)
 
--- one variable more
-pub run-more : (first k : ℕ) → run first (k + 1) ≡ run first k ++ (pos (first + k) ∷ [])
-unfolding run
-run-more first k = each-more k (λ (i : ℕ). pos (first + (0 + i)) ∷ []) ∙ simp zero-add
+-- at most two bytes more than the digits
+signed-most : (b : Bool) (x : ℕ) → length (signedText b x) ≤ length (decimal x) + 2
+signed-most true x = let e = signed-length true x in omega arith
+signed-most false x = let e = signed-length false x in omega arith
 
--- its numeral, and the space after it, stand last
-pub run-text-more : (first k : ℕ) → literalsText (run first (k + 1)) ≡ literalsText (run first k) ++ (decimal (first + k) ++ (32 ∷ []))
-run-text-more first k =
-    ap literalsText (run-more first k) ∙ literals-append (run first k) (pos (first + k) ∷ [])
-    ∙ ap (λ (l : List ℕ). literalsText (run first k) ++ l) (literals-one (pos (first + k)) ∙ positive-text (pos (first + k)) refl)
+pub literal-most : (l : Literal) → length (literalText l) ≤ length (decimal (l .variable)) + 2
+unfolding literalText
+literal-most l = signed-most (l .negative) (l .variable)
 
--- so much longer it is
-pub run-length-more : (first k : ℕ)
-    → length (literalsText (run first (k + 1))) ≡ length (literalsText (run first k)) + (length (decimal (first + k)) + 1)
-run-length-more first k =
-    ap length (run-text-more first k) ∙ length-append (literalsText (run first k)) (decimal (first + k) ++ (32 ∷ []))
-    ∙ ap (λ (n : ℕ). length (literalsText (run first k)) + n) (number-length (first + k))
+-- a signed number by its sign and its absolute value
+pub number-text : (x : ℤ) → numberText x ≡ signedText (isNegative x) (variable x)
+unfolding numberText
+number-text x = refl
 
--- the text of a run as blocks
-run-text : (first n : ℕ) → literalsText (run first n) ≡ each n (λ i. decimal (first + i) ++ (32 ∷ []))
-unfolding each
-run-text first zero = run-none first
-run-text first (suc n) =
-    ap (λ (k : ℕ). literalsText (run first k)) (let z : suc n ≡ n + 1 = omega arith in z) ∙ run-text-more first n
-    ∙ ap (λ (l : List ℕ). l ++ (decimal (first + n) ++ (32 ∷ []))) (run-text first n)
+-- signed numbers one after the other
+pub numbers-append : (xs ys : List ℤ) → numbersText (xs ++ ys) ≡ numbersText xs ++ numbersText ys
+unfolding numbersText
+numbers-append xs ys = ap flatten (map-append numberText xs ys) ∙ flatten-append (map numberText xs) (map numberText ys)
 
--- the first i variables and the next one lie within the run
-pub run-room : (first count i : ℕ) → i < count → length (literalsText (run first (i + 1))) ≤ length (literalsText (run first count))
-run-room first count i h =
-    let e = number-length (first + i) in
-    let m = run-length-more first i in
-    let r = rw (← run-text first i, ← run-text first count) at (each-room count i (λ (j : ℕ). decimal (first + j) ++ (32 ∷ [])) h) in
+-- none
+pub numbers-none : numbersText [] ≡ []
+unfolding numbersText flatten
+numbers-none = refl
+
+-- one more
+pub numbers-more : (xs : List ℤ) (i : ℕ) → i < length xs
+    → numbersText (take (i + 1) xs) ≡ numbersText (take i xs) ++ numberText (getD xs i (Z.pos 0))
+unfolding numbersText
+numbers-more xs i h =
+    ap (λ (j : ℕ). numbersText (take j xs)) (add-one i) ∙ ap numbersText (take-suc xs i (Z.pos 0) h)
+    ∙ numbers-append (take i xs) (getD xs i (Z.pos 0) ∷ [])
+    ∙ ap (λ (l : List ℕ). numbersText (take i xs) ++ l) (flatten-one (numberText (getD xs i (Z.pos 0))))
+
+-- the first are no longer than all
+pub numbers-room : (xs : List ℤ) (i : ℕ) → length (numbersText (take i xs)) ≤ length (numbersText xs)
+numbers-room xs i =
+    let e = ap (λ (l : List ℤ). length (numbersText l)) (take-append-drop i xs) in
+    let a = ap length (numbers-append (take i xs) (drop i xs)) ∙ length-append (numbersText (take i xs)) (numbersText (drop i xs)) in
     omega arith
 
--- the variables of a run are those from the first on
-pub low-at : (first count i : ℕ) → Low (run first count) → i < count → first + i ≤ 10000
-unfolding run
-low-at first count i h l =
-    let e = singles-at count i (λ (j : ℕ). pos (first + (0 + j))) (pos 0) l in
-    let n = singles-length count (λ (j : ℕ). pos (first + (0 + j))) in
-    let b = each-out (λ (x : Literal). x .variable ≤ 10000) (each count (λ (j : ℕ). pos (first + (0 + j)) ∷ [])) (pos 0) h i (omega arith) in
-    let v = ap (λ (x : Literal). x .variable) e in
-    omega arith
+-- the text of a literal is that of its signed number
+signed-text : (b : Bool) (v : ℕ) → 1 ≤ v
+    → numberText (signedOf (record { variable = v; negative = b })) ≡ literalText (record { variable = v; negative = b })
+unfolding numberText literalText
+signed-text b zero h = absurd (omega arith)
+signed-text true (suc v) h = refl
+signed-text false (suc v) h = refl
 
--- so it has no more than 10001 of them
-pub low-count : (first count : ℕ) → Low (run first count) → count ≤ 10001
-low-count first count h =
-    ⊎-elim (λ (l : count ≤ 10001). l) (λ (l : 10001 < count). let b = low-at first count 10001 h l in absurd (omega arith)) (le? count 10001)
+-- and that of literals
+pub signed-texts : (top : ℕ) (c : Clause) → Each (λ l. (1 ≤ l .variable) × (l .variable ≤ top)) c
+    → numbersText (map signedOf c) ≡ literalsText c
+unfolding numbersText literalsText flatten
+signed-texts top [] h = refl
+signed-texts top (l ∷ c) h = ap₂ _++_ (signed-text (l .negative) (l .variable) (h .0 .0)) (signed-texts top c (h .1))

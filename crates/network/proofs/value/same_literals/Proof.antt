@@ -1,5 +1,6 @@
--- The entries below the index agree; two arrays of 7 entries that agree at each are equal. Assumes nothing.
+-- The entries below the index agree; two arrays of one length that agree at each are equal. Assumes nothing.
 use borrow.Author.Count.{below-more}
+use Rattle.request.specs.Numbers.{switchesMost}
 use Rattle.network.specs.Value.Laws.{differ-at, agree-below}
 use mathlib.Core.Path.{_≡_}
 use Prim.Native.Nat.{ℕ, _-_, _≤_, _<_}
@@ -10,10 +11,10 @@ use Rattle.network.proofs.value.same_literals.Statement.{statement}
 use Rattle.network.proofs.value.same_literals.Tie as tie
 
 abbrev Inv-loop : tie.InvT-loop
-Inv-loop a b i₀ i = (i ≤ 7) × ((k : ℕ) → k < i → getD a k 0 ≡ getD b k 0)
+Inv-loop a b i₀ i = (i ≤ switchesMost) × ((k : ℕ) → k < i → getD a k 0 ≡ getD b k 0)
 
 abbrev μ-loop : tie.MeasureT-loop
-μ-loop a b i₀ i = 7 - i
+μ-loop a b i₀ i = switchesMost - i
 
 loop-holds : tie.Need-loop-holds Inv-loop μ-loop
 loop-holds c = search needs
@@ -37,7 +38,7 @@ loop-again : tie.Need-loop-again Inv-loop μ-loop
 loop-again c = (search needs, below-more _ _ (c .before .before .loop .inv .1) (c .if1 .left))
 
 returns-2 : tie.Need-returns-2 Inv-loop μ-loop
-returns-2 c = agree-below 7 _ _ (search needs) (search needs) (λ k h. c .before .loop .inv .1 k (omega arith))
+returns-2 c = agree-below switchesMost _ _ (search needs) (search needs) (λ k h. c .before .loop .inv .1 k (omega arith))
 
 pub same-literals-spec : {M : Type 1} → statement M
 same-literals-spec =

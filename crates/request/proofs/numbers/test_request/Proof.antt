@@ -8,6 +8,7 @@ use Rattle.request.specs.declared.Request.{Request}
 use Rattle.request.specs.Numbers.Laws.{refusal-low, refusal-high, refusal-table, refusal-r, refusal-m, good-refusal, rows-shl, rows-high, table-over, table-within}
 use Rattle.request.proofs.numbers.test_request.Statement.{statement}
 use Rattle.request.proofs.numbers.test_request.Tie as tie
+use Rattle.request.specs.Numbers.{inputsMost}
 
 returns : tie.Need-returns
 returns c = sym (refusal-low _ (omega arith))
@@ -27,7 +28,7 @@ cast-if3 c = search needs
 shr-if3 : tie.Need-shr-if3
 shr-if3 c =
     let n = c .before .before .before .before .before .before .args .q .n in
-    let h : n ≤ 4 = omega arith in
+    let h : n ≤ inputsMost = omega arith in
     let z = rows-shl n 32 h (omega arith) in
     omega (arith, rows-high n h)
 

@@ -1,0 +1,28 @@
+-- `lines::put_digit` meets its contract: one store. Assumes nothing.
+use Prim.Native.Nat.{_+_}
+use borrow.Author.Needs.{needs}
+use Rattle.prelude.specs.Written.Laws.{wrote-one}
+use Rattle.dimacs.proofs.lines.put_digit.Statement.{statement}
+use Rattle.dimacs.proofs.lines.put_digit.Tie as tie
+
+cast-buffer : tie.Need-cast-buffer
+cast-buffer c = search needs
+
+add-buffer : tie.Need-add-buffer
+add-buffer c = search needs
+
+slice-write-buffer : tie.Need-slice-write-buffer
+slice-write-buffer c = search needs
+
+add-result : tie.Need-add-result
+add-result c = search needs
+
+same-length : tie.Need-same-length
+same-length c = search needs
+
+returns : tie.Need-returns
+returns c = wrote-one (c .args .buffer .now) (c .args .at) (48 + c .args .x) (c .pre .1)
+
+pub put-digit-spec : {M : Type 1} → statement M
+put-digit-spec =
+    tie.close (tie.spec cast-buffer add-buffer slice-write-buffer add-result same-length returns)

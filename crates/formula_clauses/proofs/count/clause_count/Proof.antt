@@ -1,0 +1,65 @@
+-- So many for groups 1 and 2, and so many for each on row and each off row. Assumes nothing.
+use mathlib.Core.Path.{ap, ap₂, _∙_}
+use Prim.Native.Nat.{ℕ, _+_, _^_}
+use native.Mathlib.Omega.{arith}
+use Rattle.request.specs.Numbers.Laws.{rows-high, rows-shl}
+use Rattle.formula.specs.Count.{split, clauseCount, clausesBefore}
+use borrow.Author.Needs.{needs}
+use Rattle.formula_clauses.proofs.count.clause_count.Statement.{statement}
+use Rattle.formula_clauses.proofs.count.clause_count.Tie as tie
+
+cast-n : tie.Need-cast-n
+cast-n c = search needs
+
+cast-r : tie.Need-cast-r
+cast-r c = search needs
+
+cast-on-row-count : tie.Need-cast-on-row-count
+cast-on-row-count c = search needs
+
+on-row-count-requires : tie.Need-on-row-count-requires
+on-row-count-requires c κs = let s = c .before .before .before in let g = s .pre in let h = g .n-high in let k = g .r-high in let l = g .m-high in (omega arith, omega arith, omega arith)
+
+off-row-count-requires : tie.Need-off-row-count-requires
+off-row-count-requires c κs = let s = c .before .before .before .before in let g = s .pre in let h = g .n-high in let k = g .r-high in let l = g .m-high in (omega arith, omega arith)
+
+network-count-requires : tie.Need-network-count-requires
+network-count-requires c κs = search needs
+
+shl-weighted : tie.Need-shl-weighted
+shl-weighted c = let s = c .before .before .before .before .before .before in let g = s .pre in let h = g .n-high in let k = g .r-high in let l = g .m-high in omega arith
+
+weighted-requires : tie.Need-weighted-requires
+weighted-requires c κs =
+    let s = c .before .before .before .before .before .before in let g = s .pre in let h = g .n-high in let k = g .r-high in let l = g .m-high in
+    let p = rows-shl (s .args .q .n) 32 h (omega arith) in
+    let m = rows-high (s .args .q .n) h in
+    (omega (arith, p), omega arith, omega arith)
+
+add-result : tie.Need-add-result
+add-result c = search needs
+
+returns : tie.Need-returns
+unfolding clauseCount clausesBefore
+returns c =
+    let s = c .before .before .before .before .before .before .before in
+    let q = s .args .q in
+    let w = c .before .before .before in
+    ap₂ (λ (x y : ℕ). x + y) (c .before .network-count .ensures .0)
+    (c .weighted .ensures .0 ∙ ap (split (q .table) (w .on-row-count .result) (c .before .before .off-row-count .result)) (rows-shl (q .n) 32 (s .pre .n-high) (omega arith))
+    ∙ ap₂ (λ (x y : ℕ). split (q .table) x y (2 ^ (q .n))) (w .on-row-count .ensures .0) (c .before .before .off-row-count .ensures .0))
+
+pub clause-count-spec : {M : Type 1} → statement M
+clause-count-spec =
+    tie.close
+    (tie.spec
+    cast-n
+    cast-r
+    cast-on-row-count
+    on-row-count-requires
+    off-row-count-requires
+    network-count-requires
+    shl-weighted
+    weighted-requires
+    add-result
+    returns)

@@ -1,2 +1,0 @@
--- A network as bytes. Assumes nothing.
-pub mod Bytes

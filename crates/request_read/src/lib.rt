@@ -1,0 +1,143 @@
+// Reading a request from bytes of any content and length. The line's form is tested whole before any of its numbers: 1 unless
+// it is four non-empty runs of digits with one space between and a newline last. Then n, the table, r and M, in this order.
+use request::INPUTS;
+use request::Reading;
+use request::Request;
+use request::SERIES;
+use request::SWITCHES;
+ghost use mathlib.Core.Path.{_≡_};
+ghost use Prim.Native.Nat.{_-_, _≤_, _<_};
+ghost use lib.ListN.{length};
+ghost use Rattle.request.specs.Numbers.{inputsMost, rowsMost};
+ghost use Rattle.request.specs.Line.{numberOf, valuesOf, runEnd, endedBy, single, isTable, tableAt, requestNumber, requestValues, requestOf, numbersOf, Digits, Bits, Ends};
+
+// The end of the run of digits that starts at from.
+fn run_end(text: &[u8], from: usize) -> usize
+    ensures { λ e. ⌜ e ≡ runEnd (now (text .entry)) from ⌝ }
+{
+    let mut i = from;
+    while i < text.len() {
+        if text[i] < b'0' {
+            return i;
+        }
+        if b'9' < text[i] {
+            return i;
+        }
+        i += 1;
+    }
+    i
+}
+
+// Whether the run from one place to another is not empty, with the byte b after it.
+fn ended_by(text: &[u8], from: usize, end: usize, b: u8) -> bool
+    ensures { λ x. ⌜ x ≡ endedBy (now (text .entry)) from end b ⌝ }
+{
+    if end <= from {
+        return false;
+    }
+    if text.len() <= end {
+        return false;
+    }
+    text[end] == b
+}
+
+// The digit that a run of one character is; 10 for a longer run.
+fn one_digit(text: &[u8], from: usize, end: usize) -> u8
+    requires { ⌜ (from < end) × (end ≤ length (now text)) × Digits (now text) from end ⌝ }
+    ensures { λ x. ⌜ x ≡ single (now (text .entry)) from end ⌝ }
+{
+    if end - from != 1 {
+        return 10;
+    }
+    text[from] - b'0'
+}
+
+// Whether a run is a table of 2^n characters 0 or 1.
+fn is_table(text: &[u8], from: usize, end: usize, n: u8) -> bool
+    requires { ⌜ (from ≤ end) × (end ≤ length (now text)) × (n ≤ inputsMost) ⌝ }
+    ensures { λ x. ⌜ x ≡ isTable (now (text .entry)) from end n ⌝ }
+{
+    if end - from != 1usize << (n as usize) {
+        return false;
+    }
+    let mut i = from;
+    while i < end {
+        if text[i] < b'0' {
+            return false;
+        }
+        if b'1' < text[i] {
+            return false;
+        }
+        i += 1;
+    }
+    true
+}
+
+// The table that a run of characters 0 or 1 spells, row 0 first.
+fn table_value(text: &[u8], from: usize, end: usize) -> u16
+    requires { ⌜ (from ≤ end) × (end ≤ length (now text)) × (end - from ≤ rowsMost) × Bits (now text) from end ⌝ }
+    ensures { λ x. ⌜ x ≡ tableAt (now (text .entry)) from (end - from) ⌝ }
+{
+    let mut value: u32 = 0;
+    let mut i = end;
+    while from < i {
+        i -= 1;
+        let bit = (text[i] - b'0') as u32;
+        value = 2 * value + bit;
+    }
+    value as u16
+}
+
+// The request whose four runs end at a, b, c and d.
+fn numbers_at(text: &[u8], a: usize, b: usize, c: usize, d: usize) -> Reading
+    requires { ⌜ Ends (now text) a b c d ⌝ }
+    ensures { λ x. ⌜ x ≡ numbersOf (now (text .entry)) a b c d ⌝ }
+{
+    let n = one_digit(text, 0, a);
+    if n < 1 {
+        return Reading::Refused(2);
+    }
+    if INPUTS < n {
+        return Reading::Refused(2);
+    }
+    if !is_table(text, a + 1, b, n) {
+        return Reading::Refused(3);
+    }
+    let r = one_digit(text, b + 1, c);
+    if SWITCHES < r {
+        return Reading::Refused(4);
+    }
+    let m = one_digit(text, c + 1, d);
+    if SERIES < m {
+        return Reading::Refused(5);
+    }
+    let table = table_value(text, a + 1, b);
+    Reading::Taken(Request { n, table, r, m })
+}
+
+pub fn read_request(text: &[u8]) -> Reading
+    ensures answer { λ x. ⌜ x ≡ requestOf (now (text .entry)) ⌝ }
+    ensures number { λ x. ⌜ numberOf x ≡ requestNumber (now (text .entry)) ⌝ }
+    ensures values { λ x. ⌜ valuesOf x ≡ requestValues (now (text .entry)) ⌝ }
+{
+    let a = run_end(text, 0);
+    if !ended_by(text, 0, a, b' ') {
+        return Reading::Refused(1);
+    }
+    let b = run_end(text, a + 1);
+    if !ended_by(text, a + 1, b, b' ') {
+        return Reading::Refused(1);
+    }
+    let c = run_end(text, b + 1);
+    if !ended_by(text, b + 1, c, b' ') {
+        return Reading::Refused(1);
+    }
+    let d = run_end(text, c + 1);
+    if !ended_by(text, c + 1, d, b'\n') {
+        return Reading::Refused(1);
+    }
+    if d + 1 != text.len() {
+        return Reading::Refused(1);
+    }
+    numbers_at(text, a, b, c, d)
+}

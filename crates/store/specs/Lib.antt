@@ -1,2 +1,0 @@
--- The clause store (document 01, "The clause store", "Storing clauses"). Assumes nothing.
-pub mod Store
