@@ -14,6 +14,7 @@
 
 #include "nordkelch.h"
 #include "../tests/second/clauses.hpp"
+#include "entries.hpp"
 #include "files.hpp"
 #include "long_refutation.hpp"
 #include "plain_clauses.hpp"
@@ -63,7 +64,8 @@ struct Outcome {
 };
 
 Outcome plain_check(const Request& q, const std::string& text, Slices& slices) {
-    plain::Clauses<Store> clauses(int(q.n), int(q.table), int(q.r), int(q.m), Store(slices.literals.data(), slices.pairs.data()));
+    plain::Clauses<Store> clauses(int(q.n), int(q.table), int(q.free), int(q.r), int(q.m),
+                                  Store(slices.literals.data(), slices.pairs.data()));
     clauses.all();
     plain::Check check(bytes_of(text), text.size(), slices.literals.data(), slices.pairs.data(),
                        std::uint32_t(slices.pairs.size() / 2), std::uint32_t(clauses.variables()), slices.added.data(),
@@ -74,10 +76,9 @@ Outcome plain_check(const Request& q, const std::string& text, Slices& slices) {
 
 Outcome proved_check(const Request& q, const std::string& text, Slices& slices) {
     Outcome outcome = {0, 0};
-    outcome.number =
-        nk_check_refutation(std::uint8_t(q.n), std::uint16_t(q.table), std::uint8_t(q.r), std::uint8_t(q.m), bytes_of(text),
-                            text.size(), slices.literals.data(), slices.literals.size(), slices.pairs.data(), slices.pairs.size(),
-                            slices.added.data(), slices.added.size(), slices.values.data(), slices.values.size(), &outcome.count);
+    outcome.number = ask(nk_check_refutation, q, bytes_of(text), text.size(), slices.literals.data(), slices.literals.size(),
+                         slices.pairs.data(), slices.pairs.size(), slices.added.data(), slices.added.size(), slices.values.data(),
+                         slices.values.size(), &outcome.count);
     return outcome;
 }
 

@@ -8,13 +8,14 @@ namespace plain {
 
 template <typename Out>
 struct Clauses {
-    int n, table, r, m;
+    int n, table, free, r, m;
     int N, P, sink, ends;
     Out out;
 
-    Clauses(int n_, int table_, int r_, int m_, Out out_)
-        : n(n_), table(table_), r(r_), m(m_), N(2 * r + 2), P(N * (N - 1) / 2), sink(2 * r + 1),
-          ends(2 * r), out(out_) {}
+    // `free` has the free rows, which have no variables and no clauses.
+    Clauses(int n_, int table_, int free_, int r_, int m_, Out out_)
+        : n(n_), table(table_), free(free_), r(r_), m(m_), N(2 * r + 2), P(N * (N - 1) / 2),
+          sink(2 * r + 1), ends(2 * r), out(out_) {}
 
     void all() {
         head();
@@ -35,6 +36,7 @@ struct Clauses {
     }
     int L(int s, int v) const { return P + 2 * n * s + v + 1; }
     bool is_on(int row) const { return ((table >> row) & 1) == 1; }
+    bool is_free(int row) const { return ((free >> row) & 1) == 1; }
     bool is_one(int v, int row) const {
         return v < n ? ((row >> (n - 1 - v)) & 1) == 1 : ((row >> (2 * n - 1 - v)) & 1) == 0;
     }
@@ -45,7 +47,11 @@ struct Clauses {
         for (int row = 0; row < (1 << n); row++) on += is_on(row);
         return on;
     }
-    int off_rows() const { return (1 << n) - on_rows(); }
+    int off_rows() const {
+        int off = 0;
+        for (int row = 0; row < (1 << n); row++) off += !is_on(row) && !is_free(row);
+        return off;
+    }
 
     void head() {
         const int on_clauses =
@@ -133,7 +139,7 @@ struct Clauses {
             if (is_on(row)) {
                 on_row(row, B);
                 B += m * (ends + 1);
-            } else {
+            } else if (!is_free(row)) {
                 off_row(row, B);
                 B += N;
             }

@@ -22,7 +22,7 @@ static double nanoseconds_per_byte(const std::string& text) {
     unsigned refusal = 0;
     for (int turn = turns_for(text.size()); turn > 0; turn--) {
         best = std::min(best, milliseconds([&] {
-            refusal = nk_test_answer(1, 2, 1, 1, reinterpret_cast<const uint8_t*>(text.data()), text.size());
+            refusal = nk_test_answer(1, 2, 0, 1, 1, reinterpret_cast<const uint8_t*>(text.data()), text.size());
         }));
     }
     if (refusal != 0) std::printf("refused %u\n", refusal);

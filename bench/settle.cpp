@@ -11,6 +11,7 @@
 #include <string>
 #include <vector>
 
+#include "entries.hpp"
 #include "files.hpp"
 #include "nordkelch.h"
 #include "timing.hpp"
@@ -42,7 +43,7 @@ int main(int count, char** words) {
     const std::string refutation = text_of_file(words[2]);
     const second::Request q = request_of(words + 3);
     unsigned V = 0, C = 0, T = 0;
-    if (q.r > 0) second::counts({q.n, q.table, q.r - 1, q.m}, V, C, T);
+    if (q.r > 0) second::counts({q.n, q.table, q.r - 1, q.m, q.free}, V, C, T);
     std::vector<std::int32_t> literals(T);
     std::vector<std::uint32_t> pairs(2 * C), added(2 * additions_in(refutation));
     std::vector<std::uint8_t> values(V + 1);
@@ -51,10 +52,9 @@ int main(int count, char** words) {
     double best = 1e9;
     for (int turn = turns_for(refutation.size()); turn > 0; turn--) {
         best = std::min(best, milliseconds([&] {
-            verdict = nk_settle(std::uint8_t(q.n), std::uint16_t(q.table), std::uint8_t(q.r), std::uint8_t(q.m), bytes_of(answer),
-                                answer.size(), bytes_of(refutation), refutation.size(), literals.data(), literals.size(),
-                                pairs.data(), pairs.size(), added.data(), added.size(), values.data(), values.size(), network,
-                                &number);
+            verdict = ask(nk_settle, q, bytes_of(answer), answer.size(), bytes_of(refutation), refutation.size(),
+                          literals.data(), literals.size(), pairs.data(), pairs.size(), added.data(), added.size(),
+                          values.data(), values.size(), network, &number);
         }));
     }
     static const char* const names[] = {"least", "works", "fails", "refused"};

@@ -51,7 +51,7 @@ struct Out {
 };
 
 void plain_store(int table, Slices& to) {
-    plain::Clauses<Out> clauses(n, table, r, m, Out{to.literals.data(), to.pairs.data()});
+    plain::Clauses<Out> clauses(n, table, 0, r, m, Out{to.literals.data(), to.pairs.data()});
     clauses.all();
 }
 
@@ -64,7 +64,7 @@ std::uint8_t values[65536];
 void proved_store(int table, Slices& to) {
     const std::uint8_t text = 0;
     std::uint32_t added = 0, count = 0;
-    nk_check_refutation(std::uint8_t(n), std::uint16_t(table), std::uint8_t(r), std::uint8_t(m),
+    nk_check_refutation(std::uint8_t(n), std::uint16_t(table), 0, std::uint8_t(r), std::uint8_t(m),
                         &text, 0, to.literals.data(), to.literals.size(), to.pairs.data(),
                         to.pairs.size(), &added, 0, values, sizeof values, &count);
 }

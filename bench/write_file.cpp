@@ -62,7 +62,7 @@ struct Out {
 
 // Writes the file and gives its length.
 std::uint64_t plain_write_file(int n, int table, int r, int m, char* buffer) {
-    plain::Clauses<Out> clauses(n, table, r, m, Out{buffer});
+    plain::Clauses<Out> clauses(n, table, 0, r, m, Out{buffer});
     clauses.all();
     return std::uint64_t(clauses.out.at - buffer);
 }
@@ -78,13 +78,13 @@ volatile int n = 4, table = 0xFFFF, r = 7, m = 7;
 
 int main() {
     std::uint64_t size = 0;
-    if (nk_file_size(std::uint8_t(n), std::uint16_t(table), std::uint8_t(r), std::uint8_t(m),
+    if (nk_file_size(std::uint8_t(n), std::uint16_t(table), 0, std::uint8_t(r), std::uint8_t(m),
                      &size) != 0) {
         std::printf("refused\n");
         return 1;
     }
     std::uint32_t variables = 0, clauses = 0, literals = 0;
-    nk_sizes(std::uint8_t(n), std::uint16_t(table), std::uint8_t(r), std::uint8_t(m), &variables,
+    nk_sizes(std::uint8_t(n), std::uint16_t(table), 0, std::uint8_t(r), std::uint8_t(m), &variables,
              &clauses, &literals);
     // Filled once, so that no first touch of a page is timed. The buffers
     // have other bytes, so that unwritten ones can't be equal by chance.
@@ -96,7 +96,7 @@ int main() {
     std::uint32_t answer = 0;
     const auto write = [&](std::vector<std::uint8_t>& buffer, std::uint64_t& length) {
         return milliseconds([&] {
-            answer |= nk_write_file(std::uint8_t(n), std::uint16_t(table), std::uint8_t(r),
+            answer |= nk_write_file(std::uint8_t(n), std::uint16_t(table), 0, std::uint8_t(r),
                                     std::uint8_t(m), buffer.data(), buffer.size(), &length);
         });
     };

@@ -26,10 +26,10 @@ enum Status { more = 0, failed = 1, wrong_words = 2, refused = 5 };
 std::uint32_t check(const Request& q, const Text& refutation) {
     Slices lent(q, refutation);
     std::uint32_t count = 0;
-    return nk_check_refutation(q.n, q.table, q.r, q.m, refutation.bytes(), refutation.length(),
-                               lent.literals.data(), lent.literals_length, lent.pairs.data(),
-                               lent.pairs_length, lent.added.data(), lent.added_length,
-                               lent.values.data(), lent.values.size(), &count);
+    return nk_check_refutation(q.n, q.table, q.free, q.r, q.m, refutation.bytes(),
+                               refutation.length(), lent.literals.data(), lent.literals_length,
+                               lent.pairs.data(), lent.pairs_length, lent.added.data(),
+                               lent.added_length, lent.values.data(), lent.values.size(), &count);
 }
 
 }  // namespace

@@ -6,9 +6,9 @@
 // number". Nets are circles with the net's number, switches are lines with
 // their literals. The caption has the verdict, and for "works" says in words
 // what is missing. With the table and M of the request they stand below the
-// verdict, and literals are shown as inputs a, b, c, d and complements a', b',
-// c', d'; without them as the report's numbers, since how many inputs there are
-// is not in the report.
+// verdict, the table as it is given, with - for free rows, and literals are shown
+// as inputs a, b, c, d and complements a', b', c', d'; without them as the
+// report's numbers, since how many inputs there are is not in the report.
 //
 // The exit status is 0 for a picture, 1 where the text is not such a report, or
 // not one for such a table, or standard output cannot be written, and 2 for
@@ -495,7 +495,7 @@ bool read_words(int argc, char** argv, Request& request) {
     request.table = argv[1];
     const std::size_t rows = request.table.size();
     if (rows != 2 && rows != 4 && rows != 8 && rows != 16) return false;
-    if (request.table.find_first_not_of("01") != std::string::npos) return false;
+    if (request.table.find_first_not_of("01-") != std::string::npos) return false;
     const std::string bound = argv[2];
     if (bound.size() != 1 || bound[0] < '0' || bound[0] > '7') return false;
     request.m = unsigned(bound[0] - '0');

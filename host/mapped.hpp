@@ -97,13 +97,14 @@ inline bool printed(const char* program) {
 struct Request {
     std::uint8_t n = 0;
     std::uint16_t table = 0;
+    std::uint16_t free = 0;  // the free rows
     std::uint8_t r = 0;
     std::uint8_t m = 0;
 };
 
 // The request of a line: NK_TAKEN, or the number of the refusal.
 inline std::uint32_t read_request(const Text& line, Request& q) {
-    return nk_read_request(line.bytes(), line.length(), &q.n, &q.table, &q.r, &q.m);
+    return nk_read_request(line.bytes(), line.length(), &q.n, &q.table, &q.free, &q.r, &q.m);
 }
 
 // The lines of a refutation that may add a clause: all but those whose second
@@ -131,7 +132,7 @@ struct Slices {
     Slices() = default;
     Slices(const Request& refuted, const Text& refutation) {
         std::uint32_t V = 0, C = 0, T = 0;
-        nk_sizes(refuted.n, refuted.table, refuted.r, refuted.m, &V, &C, &T);
+        nk_sizes(refuted.n, refuted.table, refuted.free, refuted.r, refuted.m, &V, &C, &T);
         literals_length = T;
         pairs_length = 2 * std::size_t(C);
         // a text above the limit is refused before any line is read

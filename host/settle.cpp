@@ -73,10 +73,10 @@ Status settle(const Request& q, const Text& answer, const Text& refutation) {
     std::uint8_t network[24] = {};
     std::uint32_t number = 0;
     const std::uint32_t verdict =
-        nk_settle(q.n, q.table, q.r, q.m, answer.bytes(), answer.length(), refutation.bytes(),
-                  refutation.length(), lent.literals.data(), lent.literals_length,
-                  lent.pairs.data(), lent.pairs_length, lent.added.data(), lent.added_length,
-                  lent.values.data(), lent.values.size(), network, &number);
+        nk_settle(q.n, q.table, q.free, q.r, q.m, answer.bytes(), answer.length(),
+                  refutation.bytes(), refutation.length(), lent.literals.data(),
+                  lent.literals_length, lent.pairs.data(), lent.pairs_length, lent.added.data(),
+                  lent.added_length, lent.values.data(), lent.values.size(), network, &number);
     return print_report(q.r, verdict, number, network);
 }
 

@@ -4,10 +4,12 @@
 //
 // with options anywhere. A word that starts with "--" is an option, up to a
 // word "--"; any other word, "-x" for example, is taken as it stands, since a
-// folder may be named so. What document 01 judges in a request is judged here
+// folder may be named so. A table may start with "--" too, for two free rows:
+// a longer word of 0, 1 and - alone is no option, and the table of two free rows
+// is given after a word "--". What document 01 judges in a request is judged here
 // in its order and refused with its number: 1 a field has something else than
-// digits, 3 the table, 4 R, 5 M. n follows from the table. --help and
-// --version are answered by host/nordkelch, which starts this program.
+// digits, in the table also -, 3 the table, 4 R, 5 M. n follows from the table.
+// --help and --version are answered by host/nordkelch, which starts this program.
 #include "words.hpp"
 
 #include <algorithm>
@@ -51,12 +53,15 @@ unsigned inputs(const std::string& table) {
 }
 
 Question judge(Job job, const std::string& table, const std::string& r, const std::string& m) {
-    for (const std::string& word : {table, r, m}) {
+    if (!only(table, "0123456789-")) {
+        refuse(1, "the table has digits and - only, and \"" + table + "\" has not");
+    }
+    for (const std::string& word : {r, m}) {
         if (!only(word, "0123456789")) {
-            refuse(1, "the table, R and M have digits only, and \"" + word + "\" has not");
+            refuse(1, "R and M have digits only, and \"" + word + "\" has not");
         }
     }
-    if (!only(table, "01")) refuse(3, "the table has a character that is neither 0 nor 1");
+    if (!only(table, "01-")) refuse(3, "the table has a character that is neither 0, 1 nor -");
     Question question;
     question.job = job;
     question.table = table;
@@ -67,6 +72,9 @@ Question judge(Job job, const std::string& table, const std::string& r, const st
     question.m = unsigned(m[0] - '0');
     return question;
 }
+
+// Whether a word is an option: it starts with "--" and is not a table.
+bool is_option(const std::string& word) { return word.rfind("--", 0) == 0 && !only(word, "01-"); }
 
 // Takes the option at `at`, and its number, off the words.
 void take_option(const std::vector<std::string>& given, std::size_t& at, Words& words) {
@@ -104,7 +112,7 @@ Words read_words(int count, char** words) {
         if (options && given[at] == "--") {
             options = false;
             at++;
-        } else if (options && given[at].rfind("--", 0) == 0) {
+        } else if (options && is_option(given[at])) {
             take_option(given, at, result);
         } else {
             plain.push_back(given[at++]);
@@ -118,9 +126,14 @@ Words read_words(int count, char** words) {
     const bool settle = job == "settle";
     result.question = judge(settle ? Job::settle : Job::least, plain[1], settle ? plain[2] : "0",
                             plain[fields - 1]);
-    std::string name = "nordkelch-" + plain[1];
-    if (settle) name += "-" + plain[2];
     result.folder = plain.size() > fields ? plain[fields] : "";
-    if (result.folder.empty()) result.folder = name + "-" + plain[fields - 1];
+    if (result.folder.empty()) {
+        // a free row is x here: with "-" the names for `least` with one table and for
+        // `settle` with another would be the same
+        std::string table = plain[1];
+        std::replace(table.begin(), table.end(), '-', 'x');
+        result.folder =
+            "nordkelch-" + table + (settle ? "-" + plain[2] : "") + "-" + plain[fields - 1];
+    }
     return result;
 }

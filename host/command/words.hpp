@@ -14,7 +14,7 @@ enum class Job { least, settle };
 struct Question {
     Job job = Job::least;
     unsigned n = 0;
-    std::string table;
+    std::string table;  // of 0, 1 and -, row 0 first
     unsigned r = 0;
     unsigned m = 0;
 

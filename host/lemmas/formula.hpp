@@ -1,10 +1,11 @@
 // The variables of a request's clauses by name, as document 01 numbers them, and
 // its rows.
 //
-// Rows are numbered from 0; a row is on or off, by the table's character. Switches
-// are numbered from 0, terminals too: 0 is the source, 2r+1 the sink, and switch s
-// has the ends 2s+1 and 2s+2. Literal v below n is input v, literal
-// n+v its complement.
+// Rows are numbered from 0; a row is on, off or free, by the table's character 1,
+// 0 or -. A free row has no variables and no clauses, so that nothing can be said
+// of it: every family goes by rows that are on and rows that are off. Switches are
+// numbered from 0, terminals too: 0 is the source, 2r+1 the sink, and switch s has
+// the ends 2s+1 and 2s+2. Literal v below n is input v, literal n+v its complement.
 #pragma once
 
 #include <string>
@@ -18,7 +19,7 @@ using Clause = std::vector<int>;
 
 class Formula {
   public:
-    // The table has 2^n characters 0 or 1, and there are r switches and at most m
+    // The table has 2^n characters 0, 1 or -, and there are r switches and at most m
     // of them in series.
     Formula(const std::string& table, int r, int m);
 

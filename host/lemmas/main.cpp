@@ -57,7 +57,7 @@ Formula formula_of(char** words) {
     const std::string table = words[0];
     const std::size_t size = table.size();
     if (size != 2 && size != 4 && size != 8 && size != 16) usage();
-    if (table.find_first_not_of("01") != table.npos) usage();
+    if (table.find_first_not_of("01-") != table.npos) usage();
     return Formula(table, digit(words[1]), digit(words[2]));
 }
 

@@ -19,6 +19,7 @@
 #include "files.hpp"
 #include "guarded.hpp"
 #include "checks.hpp"
+#include "entries.hpp"
 #include "nordkelch.h"
 
 namespace {
@@ -32,8 +33,7 @@ Random random_numbers(20240608);
 Guarded guarded;
 
 std::uint32_t call_answer(const Request& q, const std::string& text) {
-    return nk_test_answer(std::uint8_t(q.n), std::uint16_t(q.table), std::uint8_t(q.r),
-                          std::uint8_t(q.m), guarded.put(text), text.size());
+    return ask(nk_test_answer, q, guarded.put(text), text.size());
 }
 
 // One text: the library and the second implementation give one number.
@@ -281,6 +281,11 @@ void group_refused_requests() {
         check_number(group, {1, 4, 1, 1}, text, 3);
         check_number(group, {2, 16, 8, 8}, text, 3);
         check_number(group, {3, 256, 1, 1}, text, 3);
+        check_number(group, {1, 5, 1, 1, 1}, text, 3);
+        check_number(group, {1, 2, 8, 8, 4}, text, 3);
+        check_number(group, {1, 2, 1, 1, 2}, text, 24);
+        check_number(group, {1, 1, 9, 9, 1}, text, 24);
+        check_number(group, {4, 0xFFFF, 7, 7, 0x8000}, text, 24);
         check_number(group, {1, 2, 8, 1}, text, 4);
         check_number(group, {4, 0xFFFF, 255, 255}, text, 4);
         check_number(group, {1, 2, 1, 8}, text, 5);
@@ -289,9 +294,32 @@ void group_refused_requests() {
     group.finish();
 }
 
-// A table for n inputs.
-unsigned any_table(unsigned n) {
-    return unsigned(random_numbers.below(std::size_t(1) << (1u << n)));
+// A free row has no variables, so fewer may be named.
+void group_free_rows() {
+    Group group("free rows, by hand");
+    // "1 0- 1 1" has S 9 to 12, "1 -1 1 1" W 9 and 10 and Z 11, "1 -- 1 1" none
+    const Request off = {1, 0, 1, 1, 2}, on = {1, 2, 1, 1, 1}, none = {1, 0, 1, 1, 3};
+    const std::pair<Request, unsigned> last[] = {{p2, 15}, {off, 12}, {on, 11}, {none, 8}};
+    for (const auto& [q, V] : last) {
+        check_number(group, q, good, 0);
+        for (unsigned x = 9; x <= 17; x++) {
+            const std::string text = s + "v " + values + " " + std::to_string(x) + " 0\n";
+            check_number(group, q, text, x <= V ? 0 : 10);
+        }
+    }
+    // "1 -- 0 0": X(0,1) alone
+    const Request all = {1, 0, 0, 0, 3};
+    check_number(group, all, s + "v 1 0\n", 0);
+    check_number(group, all, s + "v -1 0\n", 0);
+    check_number(group, all, s + "v 0\n", 11);
+    check_number(group, all, s + "v 1 2 0\n", 10);
+    check_number(group, all, s + "v 1 -1 0\n", 10);
+    group.finish();
+}
+
+// Any request, with free rows in most cases.
+Request any_request(unsigned n, unsigned r, unsigned m) {
+    return any_request(random_numbers, n, r, m);
 }
 
 // ---------------------------------------------------------------------------
@@ -392,7 +420,7 @@ void groups_of_networks() {
                         " r=" + std::to_string(r));
             for (unsigned m : {0u, 1u, 2u, 4u, 7u}) {
                 for (unsigned round = 0; round < 4; round++) {
-                    const Request q = {n, any_table(n), r, m};
+                    const Request q = any_request(n, r, m);
                     const Made made = make_answer(q, round * 30);
                     const second::Reading reading = check_same(group, q, made.text);
                     group.check(reading.refusal == 0, numbers_of(q), "second: refused");
@@ -475,8 +503,8 @@ void group_damaged() {
     for (unsigned round = 0; round < 3000; round++) {
         const unsigned n = unsigned(1 + random_numbers.below(4));
         const std::size_t most = round % 50 == 0 ? 8 : 4;
-        const Request q = {n, any_table(n), unsigned(random_numbers.below(most)),
-                           unsigned(random_numbers.below(8))};
+        const unsigned r = unsigned(random_numbers.below(most));
+        const Request q = any_request(n, r, unsigned(random_numbers.below(8)));
         const Made made = make_answer(q, random_numbers.below(3) * 10);
         for (unsigned copy = 0; copy < 40; copy++) {
             std::string text = made.text;
@@ -541,8 +569,10 @@ void group_long() {
     const std::size_t sizes[] = {500000, 1000000, 2000000, 8000000};
     for (std::size_t round = 0; round < 12; round++) {
         const unsigned n = unsigned(1 + random_numbers.below(4));
-        const Request q = {n, any_table(n), unsigned(random_numbers.below(8)),
-                           unsigned(1 + random_numbers.below(7))};
+        const unsigned r = unsigned(random_numbers.below(8));
+        // at least one row has variables, which may be named again
+        Request q = any_request(n, r, unsigned(1 + random_numbers.below(7)));
+        q.free &= ~1u;
         const std::string text = long_answer(q, sizes[round / 3], round % 3);
         const second::Reading reading = check_same(group, q, text);
         group.check(reading.refusal == 0, numbers_of(q), "second: refused");
@@ -592,6 +622,7 @@ void run_all() {
     group_missing();
     group_no_network();
     group_refused_requests();
+    group_free_rows();
     groups_of_networks();
     group_damaged();
     group_long();

@@ -1,7 +1,8 @@
 // Compares the proved library with an enumeration of all networks: networks
 // that were found pass nk_check_network, and a solver finds the library's clause
 // file satisfiable for the least number of switches and unsatisfiable for one
-// switch fewer.
+// switch fewer. Tables with free rows, of few inputs and switches, also with every
+// network that nk_check_network can be given.
 //
 //   enumeration_test [SOLVER]    runs all groups of checks
 //
@@ -21,6 +22,7 @@
 #include <vector>
 
 #include "checks.hpp"
+#include "entries.hpp"
 #include "nordkelch.h"
 
 namespace {
@@ -28,6 +30,10 @@ namespace {
 using enumeration::Enumeration;
 using enumeration::Graph;
 using enumeration::Rows;
+using enumeration::Search;
+using enumeration::Table;
+
+Random random_numbers(20240613);
 
 // Switches of the networks that are enumerated here. More take seconds, and the
 // clause files for one fewer a solver much longer.
@@ -75,10 +81,6 @@ void group_graphs() {
     group.finish();
 }
 
-std::string cell_name(unsigned n, unsigned table, unsigned r, unsigned m) {
-    return numbers_of({n, table, r, m});
-}
-
 // The number of classes for each number of inputs, and of those of four inputs
 // that need k switches, at M = 4. Tables of a class need the same number.
 void group_classes(const std::vector<Enumeration>& networks) {
@@ -96,7 +98,7 @@ void group_classes(const std::vector<Enumeration>& networks) {
                 const Rows other = enumeration::renamed(table, to);
                 for (unsigned m = 0; m <= enumeration::most_bound; m++) {
                     group.check(all.least(m, table) == all.least(m, other),
-                                cell_name(n, other, 0, m), "needs another number");
+                                numbers_of({n, other, 0, m}), "needs another number");
                 }
             }
         }
@@ -130,10 +132,9 @@ std::vector<std::uint8_t> bytes_of(const enumeration::Network& network) {
 }
 
 // What nk_check_network answers of a network that was found.
-std::uint32_t checked(unsigned n, Rows table, unsigned m, const enumeration::Network& network) {
+std::uint32_t checked(const Request& q, const enumeration::Network& network) {
     std::uint32_t number = 0;
-    return nk_check_network(std::uint8_t(n), table, std::uint8_t(network.graph.size()),
-                            std::uint8_t(m), bytes_of(network).data(), &number);
+    return ask(nk_check_network, q, bytes_of(network).data(), &number);
 }
 
 // Each network does the job. Where the bound below needs more switches, the
@@ -149,12 +150,13 @@ void group_networks(const std::vector<Enumeration>& networks) {
                 if (!all.found(m, table)) continue;
                 const unsigned k = all.least(m, table);
                 const enumeration::Network& network = all.network(m, table);
+                const Request q = {n, table, k, m}, shorter = {n, table, k, m - 1};
                 found++;
-                group.check(network.graph.size() == k && checked(n, table, m, network) == 0,
-                            cell_name(n, table, k, m), "the library does not pass the network");
+                group.check(network.graph.size() == k && checked(q, network) == 0, numbers_of(q),
+                            "the library does not pass the network");
                 if (m == 0 || all.least(m - 1, table) == k) continue;
                 longer++;
-                group.check(checked(n, table, m - 1, network) == 1, cell_name(n, table, k, m - 1),
+                group.check(checked(shorter, network) == 1, numbers_of(shorter),
                             "the library passes the network");
             }
         }
@@ -169,12 +171,10 @@ void group_networks(const std::vector<Enumeration>& networks) {
 // ---------------------------------------------------------------------------
 
 // The solver's exit status on the library's file, or -1.
-int solved(const std::string& solver, unsigned n, Rows table, unsigned r, unsigned m) {
+int solved(const std::string& solver, const Request& q) {
     static std::vector<std::uint8_t> text(420799);
     std::uint64_t size = 0;
-    if (nk_write_file(std::uint8_t(n), table, std::uint8_t(r), std::uint8_t(m), text.data(),
-                      text.size(), &size) != 0)
-        return -1;
+    if (ask(nk_write_file, q, text.data(), text.size(), &size) != 0) return -1;
     std::FILE* input = popen((solver + " > /dev/null 2>&1").c_str(), "w");
     if (input == nullptr) return -1;
     const bool written = std::fwrite(text.data(), 1, size, input) == size;
@@ -189,22 +189,30 @@ class Solving {
     // The least number of switches is the one of the enumeration, as far as
     // files of up to `largest` switches tell.
     void check(const Enumeration& all, unsigned n, Rows table, unsigned m, unsigned largest) {
-        const unsigned k = all.least(m, table);
-        if (all.found(m, table) && k <= largest) expect(n, table, k, m, 10);
-        if (k > 0) expect(n, table, std::min(k - 1, largest), m, 20);
+        check({n, table, 0, m}, all.least(m, table), largest);
+    }
+
+    // The same for any request, whose r does not matter: k is least, if it is up to
+    // `most`.
+    void check(Request q, unsigned k, unsigned largest) {
+        q.r = k;
+        if (k <= most && k <= largest) expect(q, 10);
+        q.r = std::min(k - 1, largest);
+        if (k > 0) expect(q, 20);
+    }
+
+    // The file is satisfiable, 10, or not, 20.
+    void expect(const Request& q, int want) {
+        const int status = solved(solver_, q);
+        counts_[want == 10 ? 0 : 1]++;
+        group_.check(status == want, numbers_of(q),
+                     "the solver ends with " + std::to_string(status));
     }
 
     unsigned long satisfiable() const { return counts_[0]; }
     unsigned long unsatisfiable() const { return counts_[1]; }
 
   private:
-    void expect(unsigned n, Rows table, unsigned r, unsigned m, int want) {
-        const int status = solved(solver_, n, table, r, m);
-        counts_[want == 10 ? 0 : 1]++;
-        group_.check(status == want, cell_name(n, table, r, m),
-                     "the solver ends with " + std::to_string(status));
-    }
-
     std::string solver_;
     Group& group_;
     unsigned long counts_[2] = {0, 0};
@@ -235,6 +243,125 @@ void group_clauses(const std::string& solver, const std::vector<Enumeration>& ne
     group.finish();
 }
 
+// ---------------------------------------------------------------------------
+// Free rows
+// ---------------------------------------------------------------------------
+
+Table table_of(const Request& q) { return {Rows(q.table), Rows(q.free)}; }
+
+// The least number for a table whose free rows are on or off in some way, over all
+// ways.
+unsigned least_completed(const Enumeration& all, const Request& q) {
+    unsigned least = all.least(q.m, Rows(q.table));
+    // each set of free rows that is not empty
+    for (unsigned on = q.free; on != 0; on = (on - 1) & q.free) {
+        least = std::min(least, all.least(q.m, Rows(q.table | on)));
+    }
+    return least;
+}
+
+// The least number, and its network passes the library's check. Up to 5 switches
+// there is a least network without too long a path on any row: a switch on no path
+// of at most M switches can be left out, and where every switch is on such a path,
+// a longer one takes 6 switches. So the number is that of some table without free
+// rows.
+unsigned check_least(Group& group, const Enumeration& all, const Search& search, Request q) {
+    const auto network = search.network(q.m, table_of(q));
+    const unsigned k = network ? unsigned(network->graph.size()) : most + 1;
+    q.r = k;
+    group.check(k == least_completed(all, q), numbers_of(q), "another number without free rows");
+    group.check(!network || checked(q, *network) == 0, numbers_of(q),
+                "the library does not pass the network");
+    return k;
+}
+
+// The labels of N terminals in every way to put them into nets: "a label is the
+// lowest terminal of its net".
+void add_labels(std::vector<unsigned>& labels, unsigned N,
+                std::vector<std::vector<unsigned>>& all) {
+    const unsigned next = unsigned(labels.size());
+    if (next == N) {
+        all.push_back(labels);
+        return;
+    }
+    for (unsigned label = 0; label <= next; label++) {
+        if (label < next && labels[label] != label) continue;
+        labels.push_back(label);
+        add_labels(labels, N, all);
+        labels.pop_back();
+    }
+}
+
+// All networks of r switches, as bytes.
+std::vector<std::vector<std::uint8_t>> all_networks(unsigned n, unsigned r) {
+    std::vector<std::vector<unsigned>> all_labels;
+    std::vector<unsigned> none;
+    add_labels(none, 2 * r + 2, all_labels);
+    std::vector<std::vector<std::uint8_t>> networks;
+    unsigned choices = 1;
+    for (unsigned s = 0; s < r; s++) choices *= 2 * n;
+    for (const auto& labels : all_labels) {
+        for (unsigned choice = 0; choice < choices; choice++) {
+            std::vector<std::uint8_t> bytes(24, 0);
+            bytes[0] = std::uint8_t(r);
+            unsigned rest = choice;
+            for (unsigned s = 0; s < r; s++, rest /= 2 * n) {
+                bytes[1 + s] = std::uint8_t(rest % (2 * n));
+            }
+            std::copy(labels.begin(), labels.end(), bytes.begin() + 8);
+            networks.push_back(bytes);
+        }
+    }
+    return networks;
+}
+
+// Every table of n inputs and every M up to 3: for each r up to 2 some network of
+// all passes the library's check, the solver finds the library's clause file
+// satisfiable, and the least number is at most r; or none of the three.
+void check_all_tables(Group& group, Solving& solving, const Enumeration& all, unsigned n) {
+    const Search search(n, most);
+    std::vector<std::vector<std::vector<std::uint8_t>>> networks;
+    for (unsigned r = 0; r <= 2; r++) networks.push_back(all_networks(n, r));
+    for (unsigned number = 0; number < tables_with_free(n); number++) {
+        for (unsigned m = 0; m <= 3; m++) {
+            Request q = {n, 0, 0, m};
+            set_table(q, number);
+            const unsigned k = check_least(group, all, search, q);
+            for (q.r = 0; q.r <= 2; q.r++) {
+                const auto passes = [&](const std::vector<std::uint8_t>& bytes) {
+                    std::uint32_t row = 0;
+                    return ask(nk_check_network, q, bytes.data(), &row) == NK_NETWORK_DOES;
+                };
+                const auto& some = networks[q.r];
+                group.check(std::any_of(some.begin(), some.end(), passes) == (k <= q.r),
+                            numbers_of(q), "whether the library passes a network of all");
+                solving.expect(q, k <= q.r ? 10 : 20);
+            }
+        }
+    }
+}
+
+void group_free_rows(const std::string& solver, const std::vector<Enumeration>& networks) {
+    Group group("free rows");
+    Solving solving(solver, group);
+    for (unsigned n = 1; n <= 2; n++) check_all_tables(group, solving, networks[n - 1], n);
+    // some tables of more inputs
+    for (unsigned n = 3; n <= 4; n++) {
+        const Search search(n, most);
+        for (unsigned round = 0; round < (n == 3 ? 120 : 40); round++) {
+            Request q = any_request(random_numbers, n, 0, round % 5);
+            q.free |= any_rows(random_numbers, n);
+            q.table &= ~q.free;
+            const unsigned k = check_least(group, networks[n - 1], search, q);
+            solving.check(q, k, n == 3 ? 4 : 3);
+        }
+    }
+    std::printf("clause files with free rows: %lu satisfiable, %lu not\n", solving.satisfiable(),
+                solving.unsatisfiable());
+    group.check(solving.satisfiable() >= 400 && solving.unsatisfiable() >= 200, "files", "too few");
+    group.finish();
+}
+
 }  // namespace
 
 int main(int argc, char** argv) {
@@ -246,5 +373,6 @@ int main(int argc, char** argv) {
     group_classes(networks);
     group_networks(networks);
     group_clauses(solver, networks);
+    group_free_rows(solver, networks);
     return counts();
 }

@@ -15,12 +15,14 @@
 #include <cstdio>
 #include <filesystem>
 #include <fstream>
+#include <iterator>
 #include <string>
 #include <vector>
 
 #include "../second/clauses.hpp"
 #include "files.hpp"
 #include "checks.hpp"
+#include "entries.hpp"
 #include "lent.hpp"
 #include "nordkelch.h"
 
@@ -31,35 +33,16 @@ using Bytes = std::vector<std::uint8_t>;
 Random random_numbers(20240607);
 
 // ---------------------------------------------------------------------------
-// Requests as text
-// ---------------------------------------------------------------------------
-
-// The table as characters, row 0 first.
-std::string table_text(const Request& q) {
-    std::string text;
-    for (unsigned row = 0; row < (1u << q.n); row++) text += second::is_on(q, row) ? '1' : '0';
-    return text;
-}
-
-// A good request as its line, without the newline.
-std::string line_of(const Request& q) {
-    return std::to_string(q.n) + " " + table_text(q) + " " + std::to_string(q.r) + " " +
-           std::to_string(q.m);
-}
-
-// ---------------------------------------------------------------------------
 // Calls of the library
 // ---------------------------------------------------------------------------
 
 std::uint32_t call_size(const Request& q, std::uint64_t& size) {
-    return nk_file_size(std::uint8_t(q.n), std::uint16_t(q.table), std::uint8_t(q.r),
-                        std::uint8_t(q.m), &size);
+    return ask(nk_file_size, q, &size);
 }
 
 std::uint32_t call_write(const Request& q, std::uint8_t* buffer, std::size_t buffer_length,
                          std::uint64_t& length) {
-    return nk_write_file(std::uint8_t(q.n), std::uint16_t(q.table), std::uint8_t(q.r),
-                         std::uint8_t(q.m), buffer, buffer_length, &length);
+    return ask(nk_write_file, q, buffer, buffer_length, &length);
 }
 
 // Bytes kept before and after each lent buffer; they must stand.
@@ -196,8 +179,7 @@ Sizes check_sizes(Group& group, const Request& q) {
     Lent<std::uint32_t> clauses(random_numbers, {want.clauses});
     Lent<std::uint32_t> literals(random_numbers, {want.literals});
     const std::uint32_t answer =
-        nk_sizes(std::uint8_t(q.n), std::uint16_t(q.table), std::uint8_t(q.r), std::uint8_t(q.m),
-                 variables.data(), clauses.data(), literals.data());
+        ask(nk_sizes, q, variables.data(), clauses.data(), literals.data());
     const Sizes have = {*variables.data(), *clauses.data(), *literals.data()};
     const std::uint32_t number = std::uint32_t(second::refusal(q));
     if (number == 0) second::counts(q, want.variables, want.clauses, want.literals);
@@ -211,7 +193,8 @@ Sizes check_sizes(Group& group, const Request& q) {
 }
 
 // The second implementation against itself: counts by formula, counts of the
-// clauses, every literal from 1 to V.
+// clauses, every literal from 1 to V. Each variable is named, but for X(0,1)
+// where there is no clause at all.
 void check_counts(Group& group, const Request& q) {
     unsigned V = 0, C = 0, T = 0;
     second::counts(q, V, C, T);
@@ -230,7 +213,7 @@ void check_counts(Group& group, const Request& q) {
             }
         }
     }
-    const bool every = std::count(named.begin() + 1, named.end(), true) == long(V);
+    const bool every = std::count(named.begin() + 1, named.end(), true) == long(C == 0 ? 0 : V);
     group.check(all.size() == C, line_of(q), "second: C is not the number of clauses");
     group.check(literals == T, line_of(q), "second: T is not the number of literals");
     group.check(inside, line_of(q), "second: a variable outside 1 to V");
@@ -255,8 +238,9 @@ void check_file(Group& group, const Request& q, const std::string& file) {
 // Groups for each n, r, M
 // ---------------------------------------------------------------------------
 
-// The tables for one (n, r, M): every table for n = 1 and 2, and for n = 3 if
-// the files are small; otherwise fixed patterns and some pseudo-random ones.
+// The tables without free rows for one (n, r, M): every table for n = 1 and 2,
+// and for n = 3 if the files are small; otherwise fixed patterns and some
+// pseudo-random ones.
 std::vector<unsigned> tables_for(unsigned n, unsigned r, unsigned m) {
     const unsigned rows = 1u << n, all_on = (1u << rows) - 1;
     std::vector<unsigned> tables;
@@ -276,10 +260,39 @@ std::vector<unsigned> tables_for(unsigned n, unsigned r, unsigned m) {
     return tables;
 }
 
+// Requests with free rows for one (n, r, M): every table for n = 1, and for n = 2
+// if the files are small; otherwise all rows free, all but the first or the last,
+// only one of them, all off rows, all on rows, and pseudo-random ones.
+std::vector<Request> with_free_rows(unsigned n, unsigned r, unsigned m) {
+    const unsigned rows = 1u << n, all = (1u << rows) - 1, last = 1u << (rows - 1);
+    std::vector<Request> requests;
+    if (n == 1 || (n == 2 && r <= 2)) {
+        for (unsigned number = 0; number < tables_with_free(n); number++) {
+            Request q = {n, 0, r, m};
+            set_table(q, number);
+            if (q.free != 0) requests.push_back(q);
+        }
+        return requests;
+    }
+    for (unsigned one : {1u, last}) {
+        requests.push_back({n, 0, r, m, all & ~one});
+        requests.push_back({n, one, r, m, all & ~one});
+        requests.push_back({n, any_rows(random_numbers, n) & ~one, r, m, one});
+    }
+    const unsigned table = any_rows(random_numbers, n);
+    requests.push_back({n, 0, r, m, all});
+    requests.push_back({n, table, r, m, all & ~table});
+    requests.push_back({n, 0, r, m, table});
+    const unsigned more = r <= 3 ? 6 : 2;
+    for (unsigned k = 0; k < more; k++) requests.push_back(any_request(random_numbers, n, r, m));
+    return requests;
+}
+
 void group_of(unsigned n, unsigned r, unsigned m) {
     Group group("n=" + std::to_string(n) + " r=" + std::to_string(r) + " M=" + std::to_string(m));
-    for (unsigned table : tables_for(n, r, m)) {
-        const Request q = {n, table, r, m};
+    std::vector<Request> requests = with_free_rows(n, r, m);
+    for (unsigned table : tables_for(n, r, m)) requests.push_back({n, table, r, m});
+    for (const Request& q : requests) {
         check_counts(group, q);
         check_file(group, q, second::file(q));
     }
@@ -294,6 +307,18 @@ void groups_of_files() {
     }
 }
 
+// A request with as many on rows and as many free rows, in other places.
+Request spread(Request q) {
+    for (std::size_t row = std::size_t(1) << q.n; row > 1; row--) {
+        const std::size_t other = random_numbers.below(row);
+        for (unsigned* rows : {&q.table, &q.free}) {
+            const unsigned differ = (*rows >> other ^ *rows >> (row - 1)) & 1;
+            *rows ^= differ << other ^ differ << (row - 1);
+        }
+    }
+    return q;
+}
+
 // The larger of each.
 void raise(Sizes& most, const Sizes& sizes) {
     most.variables = std::max(most.variables, sizes.variables);
@@ -301,9 +326,10 @@ void raise(Sizes& most, const Sizes& sizes) {
     most.literals = std::max(most.literals, sizes.literals);
 }
 
-// V, C and T of each n, r and M: every table for n up to 3, every number of on
-// rows for n = 4; then every table for n = 4 with some r and M. The most of any
-// request, and of any with r up to 6, stand in host/nordkelch.h.
+// V, C and T of each n, r and M: every table without free rows for n up to 3,
+// every table for n up to 2, every number of on rows and of free rows for n = 3 and
+// 4; then every table without free rows for n = 4 with some r and M. The most of
+// any request, and of any with r up to 6, stand in host/nordkelch.h.
 void group_sizes() {
     Group group("sizes of all requests");
     Sizes most, most_to_6;
@@ -317,7 +343,21 @@ void group_sizes() {
             for (unsigned n = 1; n <= 3; n++) {
                 for (unsigned table = 0; table < 1u << (1u << n); table++) check({n, table, r, m});
             }
-            for (unsigned ones = 0; ones <= 16; ones++) check({4, (1u << ones) - 1, r, m});
+            for (unsigned n = 1; n <= 2; n++) {
+                for (unsigned number = 0; number < tables_with_free(n); number++) {
+                    Request q = {n, 0, r, m};
+                    set_table(q, number);
+                    check(q);
+                }
+            }
+            for (unsigned n = 3; n <= 4; n++) {
+                const unsigned rows = 1u << n;
+                for (unsigned on = 0; on <= rows; on++) {
+                    for (unsigned free = 0; on + free <= rows; free++) {
+                        check(spread({n, (1u << on) - 1, r, m, ((1u << free) - 1) << on}));
+                    }
+                }
+            }
         }
     }
     for (unsigned table = 0; table <= 0xFFFF; table++) {
@@ -332,7 +372,7 @@ void group_sizes() {
 // Groups for refused requests
 // ---------------------------------------------------------------------------
 
-// The number comes before the short buffer too: room 0 gives 2 to 5, not 6.
+// The number comes before the short buffer too: room 0 gives 2 to 5 or 24, not 6.
 void check_refused(Group& group, const Request& q, unsigned number) {
     check_sizes(group, q);
     check_refused_size(group, q, numbers_of(q), number);
@@ -347,15 +387,43 @@ void group_refused_by_hand() {
         unsigned number;
     };
     const Row rows[] = {
-        {{0, 0x0000, 0, 0}, 2},   {{5, 0x0000, 0, 0}, 2},     {{255, 0x0000, 0, 0}, 2},
-        {{0, 0xFFFF, 8, 8}, 2},   {{5, 0xFFFF, 255, 255}, 2}, {{16, 0x0001, 8, 0}, 2},
-        {{1, 0x0004, 0, 0}, 3},   {{1, 0x8000, 0, 0}, 3},     {{1, 0x0007, 7, 7}, 3},
-        {{2, 0x0010, 0, 0}, 3},   {{2, 0xFFFF, 8, 8}, 3},     {{2, 0x8000, 1, 8}, 3},
-        {{3, 0x0100, 0, 0}, 3},   {{3, 0x8000, 255, 0}, 3},   {{3, 0xFF00, 255, 255}, 3},
-        {{1, 0x0003, 8, 0}, 4},   {{1, 0x0000, 255, 0}, 4},   {{2, 0x000F, 8, 8}, 4},
-        {{3, 0x00FF, 8, 255}, 4}, {{4, 0xFFFF, 8, 8}, 4},     {{4, 0x8000, 255, 255}, 4},
-        {{1, 0x0003, 0, 8}, 5},   {{2, 0x000F, 7, 8}, 5},     {{3, 0x00FF, 7, 255}, 5},
-        {{4, 0xFFFF, 7, 8}, 5},   {{4, 0x0000, 0, 255}, 5},   {{4, 0x0000, 7, 128}, 5},
+        {{0, 0x0000, 0, 0}, 2},
+        {{5, 0x0000, 0, 0}, 2},
+        {{255, 0x0000, 0, 0}, 2},
+        {{0, 0xFFFF, 8, 8}, 2},
+        {{5, 0xFFFF, 255, 255}, 2},
+        {{16, 0x0001, 8, 0}, 2},
+        {{1, 0x0004, 0, 0}, 3},
+        {{1, 0x8000, 0, 0}, 3},
+        {{1, 0x0007, 7, 7}, 3},
+        {{2, 0x0010, 0, 0}, 3},
+        {{2, 0xFFFF, 8, 8}, 3},
+        {{2, 0x8000, 1, 8}, 3},
+        {{3, 0x0100, 0, 0}, 3},
+        {{3, 0x8000, 255, 0}, 3},
+        {{3, 0xFF00, 255, 255}, 3},
+        {{1, 0x0003, 8, 0}, 4},
+        {{1, 0x0000, 255, 0}, 4},
+        {{2, 0x000F, 8, 8}, 4},
+        {{3, 0x00FF, 8, 255}, 4},
+        {{4, 0xFFFF, 8, 8}, 4},
+        {{4, 0x8000, 255, 255}, 4},
+        {{1, 0x0003, 0, 8}, 5},
+        {{2, 0x000F, 7, 8}, 5},
+        {{3, 0x00FF, 7, 255}, 5},
+        {{4, 0xFFFF, 7, 8}, 5},
+        {{4, 0x0000, 0, 255}, 5},
+        {{4, 0x0000, 7, 128}, 5},
+        // with free rows, which come last
+        {{0, 1, 9, 9, 1}, 2},
+        {{1, 5, 1, 1, 1}, 3},
+        {{1, 0, 0, 0, 0xFFFF}, 3},
+        {{1, 1, 9, 1, 1}, 24},
+        {{1, 3, 0, 0, 3}, 24},
+        {{4, 0x8000, 7, 7, 0x8000}, 24},
+        {{1, 1, 8, 8, 2}, 4},
+        {{1, 0, 0, 8, 3}, 5},
+        {{4, 0, 7, 255, 0xFFFF}, 5},
     };
     Group group("refused requests, by hand");
     for (const Row& row : rows) check_refused(group, row.q, row.number);
@@ -372,9 +440,12 @@ void group_refused_mixtures() {
         for (unsigned table : tables) {
             for (unsigned r : bounds) {
                 for (unsigned m : bounds) {
-                    const Request q = {n, table, r, m};
-                    const int number = second::refusal(q);
-                    if (number != 0) check_refused(group, q, unsigned(number));
+                    const unsigned some = tables[random_numbers.below(std::size(tables))];
+                    for (unsigned free : {0u, some}) {
+                        const Request q = {n, table, r, m, free};
+                        const int number = second::refusal(q);
+                        if (number != 0) check_refused(group, q, unsigned(number));
+                    }
                 }
             }
         }
@@ -394,9 +465,10 @@ void check_taken_or_refused(Group& group, const Request& q) {
     }
 }
 
-// Every value of one field, the others good.
+// Every value of one field, the others good; the table beside free rows, and
+// these beside a table.
 void group_every_value() {
-    Group group("every value of n, r, M and the table");
+    Group group("every value of n, r, M, the table and the free rows");
     for (unsigned value = 0; value <= 255; value++) {
         check_taken_or_refused(group, {value, 0, 0, 0});
         for (unsigned n = 1; n <= 4; n++) {
@@ -405,8 +477,10 @@ void group_every_value() {
         }
     }
     for (unsigned n = 1; n <= 4; n++) {
-        for (unsigned table = 0; table <= 0xFFFF; table++) {
-            check_taken_or_refused(group, {n, table, 0, 0});
+        for (unsigned rows = 0; rows <= 0xFFFF; rows++) {
+            check_taken_or_refused(group, {n, rows, 0, 0});
+            check_taken_or_refused(group, {n, rows, 0, 0, 1});
+            check_taken_or_refused(group, {n, 2, 0, 0, rows});
         }
     }
     group.finish();
@@ -519,6 +593,68 @@ void group_order() {
                   "-18 6 0\n-19 5 0\n");
 }
 
+// Free rows, worked out on paper from the files above: the clauses of the row are
+// gone, and the rows after it begin where it began.
+void group_free_rows() {
+    group_of_text("all rows free", {1, 0, 0, 0, 3}, "p cnf 1 0\n");
+    group_of_text("all rows free, M = 7", {4, 0, 0, 7, 0xFFFF}, "p cnf 1 0\n");
+    const std::string first =
+        "-1 -4 2 0\n-1 -2 4 0\n-2 -4 1 0\n"
+        "-1 -5 3 0\n-1 -3 5 0\n-3 -5 1 0\n"
+        "-2 -6 3 0\n-2 -3 6 0\n-3 -6 2 0\n"
+        "-4 -6 5 0\n-4 -5 6 0\n-5 -6 4 0\n"
+        "7 8 0\n-7 -8 0\n";
+    group_of_text("all rows free, one switch", {1, 0, 1, 1, 3}, "p cnf 8 14\n" + first);
+    // "1 0- 1 1"
+    group_of_text("an off row before a free one", {1, 0, 1, 1, 2},
+                  "p cnf 12 30\n" + first +
+                      "-9 0\n12 0\n"
+                      "-1 -9 10 0\n-1 9 -10 0\n"
+                      "-2 -9 11 0\n-2 9 -11 0\n"
+                      "-3 -9 12 0\n-3 9 -12 0\n"
+                      "-4 -10 11 0\n-4 10 -11 0\n"
+                      "-5 -10 12 0\n-5 10 -12 0\n"
+                      "-6 -11 12 0\n-6 11 -12 0\n"
+                      "-8 -10 11 0\n-8 10 -11 0\n");
+    // "1 -1 1 1"
+    group_of_text("an on row after a free one", {1, 2, 1, 1, 1},
+                  "p cnf 11 22\n" + first +
+                      "9 10 11 0\n"
+                      "-9 -8 0\n-10 -8 0\n"
+                      "-9 1 0\n-10 2 0\n-11 3 0\n"
+                      "-9 6 0\n-10 5 0\n");
+    // "2 -0-1 0 1" and others have the file of "1 01 0 1"
+    for (const Request& q :
+         {Request{2, 8, 0, 1, 5}, Request{2, 2, 0, 1, 12}, Request{4, 0x8000, 0, 1, 0x7FFE}}) {
+        group_of_text("free rows between, without switches", q,
+                      "p cnf 4 6\n-2 0\n3 0\n-1 -2 3 0\n-1 2 -3 0\n4 0\n-4 1 0\n");
+    }
+}
+
+// The files of requests without free rows are those that were written before
+// there were free rows: their FNV-1a sum, over all n, r and M and some tables, was
+// worked out by the version before.
+void group_unchanged() {
+    Group group("files without free rows, as before");
+    std::uint64_t sum = 0xCBF29CE484222325u;
+    Bytes buffer(420799);
+    for (unsigned n = 1; n <= 4; n++) {
+        for (unsigned table : {0x0000u, 0xFFFFu, 0x6996u}) {
+            for (unsigned r_and_m = 0; r_and_m < 64; r_and_m++) {
+                const Request q = {n, table & ((1u << (1u << n)) - 1), r_and_m / 8, r_and_m % 8};
+                std::uint64_t length = 0;
+                group.check(call_write(q, buffer.data(), buffer.size(), length) == 0, line_of(q),
+                            "refused");
+                for (std::size_t i = 0; i < length; i++) {
+                    sum = (sum ^ buffer[i]) * 0x100000001B3u;
+                }
+            }
+        }
+    }
+    group.check(sum == 0xABEE883810547454u, "all", "the sum is " + std::to_string(sum));
+    group.finish();
+}
+
 // "A constant table holds the rows on which each input is 1, for n = 1 to 4,
 // in hexadecimal: 2; C A; F0 CC AA; FF00 F0F0 CCCC AAAA."
 void group_inputs() {
@@ -585,12 +721,22 @@ void dump_file(const std::filesystem::path& folder, const Request& q) {
     group.finish();
 }
 
+// Pairs of r and M for files with free rows.
+const unsigned dumped_with_free[][2] = {{0, 0}, {1, 1}, {2, 2}, {3, 3}, {4, 2}};
+
 void dump(const std::filesystem::path& folder) {
     for (unsigned n = 1; n <= 4; n++) {
         unsigned k = 0;
         for (const auto& pair : dumped_pairs) {
             dump_file(folder, {n, dumped_table(n, k), pair[0], pair[1]});
             k++;
+        }
+        for (const auto& pair : dumped_with_free) {
+            Request q = {n, dumped_table(n, 0), pair[0], pair[1], any_rows(random_numbers, n)};
+            // at least one, and with r = 0 all
+            q.free |= pair[0] == 0 ? (1u << (1u << n)) - 1 : 1;
+            q.table &= ~q.free;
+            dump_file(folder, q);
         }
     }
 }
@@ -601,6 +747,8 @@ void run_all() {
     group_p3();
     group_p4();
     group_order();
+    group_free_rows();
+    group_unchanged();
     group_inputs();
     group_refused_by_hand();
     group_refused_mixtures();

@@ -25,13 +25,14 @@ inline std::string text_of_file(const std::string& name) {
     return text;
 }
 
-// The words n, table, r, m, the table's row 0 first.
+// The words n, table, r, m, the table's row 0 first, with - for a free row.
 inline second::Request request_of(char** words) {
     second::Request q = {unsigned(std::atoi(words[0])), 0, unsigned(std::atoi(words[2])),
                          unsigned(std::atoi(words[3]))};
     const std::string table = words[1];
     for (std::size_t row = 0; row < table.size() && row < 16; row++) {
         if (table[row] == '1') q.table |= 1u << row;
+        if (table[row] == '-') q.free |= 1u << row;
     }
     return q;
 }

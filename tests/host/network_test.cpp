@@ -15,6 +15,7 @@
 
 #include "../second/settling.hpp"
 #include "checks.hpp"
+#include "entries.hpp"
 #include "guarded.hpp"
 #include "lent.hpp"
 #include "nordkelch.h"
@@ -29,7 +30,7 @@ Guarded guarded;
 
 // How often each answer came up, each refusal, and each lowest wrong row by n.
 unsigned long answers[3] = {0};
-unsigned long refusals[14] = {0};
+unsigned long refusals[25] = {0};
 unsigned long wrong_rows[5][16] = {{0}};
 
 std::uint8_t any_byte() { return std::uint8_t(random_numbers.below(256)); }
@@ -50,9 +51,7 @@ std::string found_text(unsigned answer, unsigned number) {
 second::NetworkCheck check(Group& group, const Request& q, const Network& network) {
     const std::uint8_t* bytes = guarded.put(std::string(network.begin(), network.end()));
     Lent<std::uint32_t> number(random_numbers, {std::uint32_t(random_numbers.next() >> 32)});
-    const std::uint32_t answer =
-        nk_check_network(std::uint8_t(q.n), std::uint16_t(q.table), std::uint8_t(q.r),
-                         std::uint8_t(q.m), bytes, number.data());
+    const std::uint32_t answer = ask(nk_check_network, q, bytes, number.data());
     const second::NetworkCheck want = second::check_network(q, network);
     const bool same = answer == want.answer && *number.data() == want.number &&
                       number.edges_stand() && std::equal(network.begin(), network.end(), bytes);
@@ -111,6 +110,16 @@ Network any_network(unsigned n, unsigned r) {
     return network_of(literals, labels);
 }
 
+// Makes the lowest wrong row free until the network does the job.
+void free_wrong_rows(Group& group, Request& q, const Network& network) {
+    for (;;) {
+        const second::NetworkCheck found = check(group, q, network);
+        if (found.answer != NK_NETWORK_WRONG) return;
+        q.table &= ~(1u << found.number);
+        q.free |= 1u << found.number;
+    }
+}
+
 // Flips the lowest wrong row of the table until the network does the job. False
 // where a row is wrong either way: it has a walk, but none of M switches.
 bool mend(Group& group, Request& q, const Network& network) {
@@ -123,7 +132,10 @@ bool mend(Group& group, Request& q, const Network& network) {
     }
 }
 
-unsigned any_table(unsigned n) { return unsigned(random_numbers.below(1u << (1u << n))); }
+// Any request, with free rows in most cases.
+Request any_request(unsigned n, unsigned r, unsigned m) {
+    return any_request(random_numbers, n, r, m);
+}
 
 // ---------------------------------------------------------------------------
 // Answers that are written out
@@ -175,8 +187,51 @@ void group_walks() {
     group.finish();
 }
 
+// "A network may conduct there or not", and only on and off rows can be wrong.
+void group_free_rows() {
+    Group group("free rows, by hand");
+    const Network none = network_of({}, {0, 1}), joined = network_of({}, {0, 0});
+    for (const Network& network : {none, joined}) {
+        check_found(group, {1, 0, 0, 0, 3}, network, 0, 0);
+        check_found(group, {4, 0, 0, 7, 0xFFFF}, network, 0, 0);
+    }
+    check_found(group, {1, 0, 0, 0, 2}, none, 0, 0);
+    check_found(group, {1, 0, 0, 0, 2}, joined, 1, 0);
+    check_found(group, {1, 0, 0, 0, 1}, joined, 1, 1);
+    check_found(group, {1, 1, 0, 0, 2}, none, 1, 0);
+    check_found(group, {1, 1, 0, 0, 2}, joined, 0, 0);
+    check_found(group, {1, 2, 0, 0, 1}, none, 1, 1);
+    // a, which conducts on row 1
+    const Network one = network_of({0}, {0, 0, 2, 2});
+    for (unsigned m = 0; m <= 7; m++) {
+        check_found(group, {1, 0, 1, m, 2}, one, 0, 0);
+        check_found(group, {1, 1, 1, m, 2}, one, 1, 0);
+        check_found(group, {1, 2, 1, m, 1}, one, m == 0 ? 1 : 0, m == 0 ? 1 : 0);
+        check_found(group, {1, 0, 1, m, 1}, one, 1, 1);
+    }
+    // a and b in series beside a': on row 3 the walk has two switches, which is
+    // too many for M = 1 unless the row is free, and none the less a walk where it
+    // is off
+    const Network longer = network_of({0, 1, 2}, {0, 0, 2, 2, 4, 0, 4, 4});
+    check_found(group, {2, 0xB, 3, 2}, longer, 0, 0);
+    check_found(group, {2, 0xB, 3, 1}, longer, 1, 3);
+    check_found(group, {2, 0x3, 3, 1, 0x8}, longer, 0, 0);
+    check_found(group, {2, 0x3, 3, 1, 0xC}, longer, 0, 0);
+    check_found(group, {2, 0x3, 3, 1, 0x4}, longer, 1, 3);
+    check_found(group, {2, 0x3, 3, 0, 0xC}, longer, 1, 0);
+    check_found(group, {2, 0x2, 3, 0, 0xD}, longer, 1, 1);
+    check_found(group, {2, 0x0, 3, 0, 0xF}, longer, 0, 0);
+    // the lowest of the wrong rows that are not free
+    for (unsigned row = 0; row < 16; row++) {
+        const unsigned lower = (1u << row) - 1;
+        check_found(group, {4, 0, 0, 0, lower}, joined, 1, row);
+        check_found(group, {4, 0xFFFF & ~lower, 0, 7, lower}, none, 1, row);
+    }
+    group.finish();
+}
+
 // "13 if its r isn't the request's, or a literal or a label breaks the form",
-// after 2 to 5.
+// after those of the request.
 void group_refused_by_hand() {
     Group group("refused networks, by hand");
     const Request p2 = {1, 2, 1, 1};
@@ -194,6 +249,9 @@ void group_refused_by_hand() {
         check_found(group, {0, 2, r, 8}, network, 2, 2);
         check_found(group, {5, 2, r, 8}, network, 2, 2);
         check_found(group, {1, 4, r, 8}, network, 2, 3);
+        check_found(group, {1, 2, r, 8, 6}, network, 2, 3);
+        check_found(group, {1, 2, r, 8, 2}, network, 2, 24);
+        check_found(group, {1, 2, 8, 8, 3}, network, 2, 24);
         check_found(group, {1, 2, 8, 8}, network, 2, 4);
         check_found(group, {1, 2, 1, 8}, network, 2, 5);
     }
@@ -204,19 +262,20 @@ void group_refused_by_hand() {
 // Networks of all sizes
 // ---------------------------------------------------------------------------
 
-// Any networks of the form, with any table and with the table whose job they
-// do. Then other bytes where none is read: they still do it.
+// Any networks of the form, with any table and with one whose job they do: where a
+// row has a walk, but none of M switches, it is free in that table. Then other
+// bytes where none is read: they still do it.
 void group_networks() {
     Group group("networks of all sizes");
-    unsigned long does = 0, never = 0;
+    unsigned long does = 0, only_free = 0;
     for (unsigned n = 1; n <= 4; n++) {
         for (unsigned r = 0; r <= 7; r++) {
             for (unsigned round = 0; round < 1600; round++) {
                 const Network network = any_network(n, r);
-                Request q = {n, any_table(n), r, round % 8};
+                Request q = any_request(n, r, round % 8);
                 if (!mend(group, q, network)) {
-                    never++;
-                    continue;
+                    only_free++;
+                    free_wrong_rows(group, q, network);
                 }
                 does++;
                 Network other = network;
@@ -226,8 +285,9 @@ void group_networks() {
                     }
                     check_found(group, q, other, 0, 0);
                 }
-                // other rows are wrong, the lowest of which is found
-                const unsigned wrong = any_table(n);
+                // other rows are wrong, the lowest of which is found; a free one
+                // never is
+                const unsigned wrong = any_rows(random_numbers, n) & ~q.free;
                 q.table ^= wrong;
                 unsigned row = 0;
                 while (row < 16 && (wrong >> row & 1) == 0) row++;
@@ -235,8 +295,9 @@ void group_networks() {
             }
         }
     }
-    std::printf("%lu networks that do the job of a table, %lu that do none's\n", does, never);
-    group.check(does >= 10000 && never >= 1000, "networks", "too few of a kind");
+    std::printf("%lu networks that do the job of a table, of which %lu only with free rows\n", does,
+                only_free);
+    group.check(does >= 10000 && only_free >= 1000, "networks", "too few of a kind");
     group.finish();
 }
 
@@ -244,7 +305,7 @@ void group_networks() {
 // read the network still does it.
 void check_every_byte(Group& group, unsigned n, unsigned r) {
     const Network network = any_network(n, r);
-    Request q = {n, any_table(n), r, 7};
+    Request q = any_request(n, r, 7);
     group.check(mend(group, q, network), numbers_of(q), "second: wrong with M = 7");
     for (std::size_t place = 0; place < 24; place++) {
         Network other = network;
@@ -274,7 +335,7 @@ void group_other_r() {
         for (unsigned r = 0; r <= 7; r++) {
             for (unsigned other = 0; other <= 7; other++) {
                 for (unsigned m = 0; m <= 7 && other != r; m++) {
-                    check_found(group, {n, any_table(n), r, m}, any_network(n, other), 2, 13);
+                    check_found(group, any_request(n, r, m), any_network(n, other), 2, 13);
                 }
             }
         }
@@ -294,7 +355,7 @@ void group_damaged() {
             const std::size_t values = random_numbers.below(4) == 0 ? 256 : 17;
             network[place] = std::uint8_t(random_numbers.below(values));
         }
-        check(group, {n, any_table(n), r, unsigned(random_numbers.below(8))}, network);
+        check(group, any_request(n, r, unsigned(random_numbers.below(8))), network);
     }
     group.finish();
 }
@@ -307,7 +368,7 @@ void group_all_labels(unsigned r, unsigned values, unsigned long ways) {
     std::vector<unsigned> labels(2 * r + 2, 0);
     unsigned long formed = 0;
     for (bool more = true; more;) {
-        const Request q = {1, any_table(1), r, unsigned(random_numbers.below(8))};
+        const Request q = any_request(1, r, unsigned(random_numbers.below(8)));
         if (check(group, q, network_of(literals, labels)).answer != NK_NETWORK_REFUSED) formed++;
         // the next labels, or none after the last
         std::size_t i = 0;
@@ -322,7 +383,7 @@ void group_seen() {
     Group group("what was found");
     std::printf("networks: %lu do, %lu are wrong, refused", answers[0], answers[1]);
     for (unsigned long count : answers) group.check(count >= 10000, "answers", "too few of a kind");
-    for (int number : {2, 3, 4, 5, 13}) {
+    for (int number : {2, 3, 24, 4, 5, 13}) {
         group.check(refusals[number] > 0, "refused " + std::to_string(number), "never");
         std::printf(" %lu with %d%s", refusals[number], number, number == 13 ? "\n" : ",");
     }
@@ -340,6 +401,7 @@ void group_seen() {
 int main() {
     group_examples();
     group_walks();
+    group_free_rows();
     group_refused_by_hand();
     group_networks();
     group_every_byte();

@@ -25,6 +25,7 @@
 
 #include "../second/refutations.hpp"
 #include "checks.hpp"
+#include "entries.hpp"
 #include "files.hpp"
 #include "guarded.hpp"
 #include "lent.hpp"
@@ -39,7 +40,7 @@ using second::Outcome;
 Random random_numbers(20240609);
 
 // How often each number came up.
-unsigned long seen[24] = {0};
+unsigned long seen[25] = {0};
 
 // ---------------------------------------------------------------------------
 // Slices
@@ -92,11 +93,10 @@ Guarded guarded;
 Call call_check(const Request& q, const std::string& text, const Slices& slices) {
     Call call = {0, std::uint32_t(random_numbers.next() >> 32), LentSlices(random_numbers, slices)};
     LentSlices& lent = call.slices;
-    call.number = nk_check_refutation(
-        std::uint8_t(q.n), std::uint16_t(q.table), std::uint8_t(q.r), std::uint8_t(q.m),
-        guarded.put(text), text.size(), lent.literals.data(), lent.literals.length(),
-        lent.pairs.data(), lent.pairs.length(), lent.added.data(), lent.added.length(),
-        lent.values.data(), lent.values.length(), &call.count);
+    call.number =
+        ask(nk_check_refutation, q, guarded.put(text), text.size(), lent.literals.data(),
+            lent.literals.length(), lent.pairs.data(), lent.pairs.length(), lent.added.data(),
+            lent.added.length(), lent.values.data(), lent.values.length(), &call.count);
     return call;
 }
 
@@ -118,7 +118,7 @@ Outcome check_same(Group& group, const Request& q, const std::string& text, cons
     const bool same = different.empty();
     group.check(same, same ? "" : numbers_of(q) + " " + shown(text) + lengths_of(slices),
                 same ? "" : different.substr(2));
-    if (want.number >= 0 && want.number < 24) seen[want.number]++;
+    if (want.number >= 0 && want.number < 25) seen[want.number]++;
     return want;
 }
 
@@ -552,6 +552,66 @@ bool same_slices(const Slices& a, const Slices& b) {
            a.values == b.values;
 }
 
+// What a check of "1 -1 0 1" leaves: V is 2, C 2 and T 3, since the free row has
+// no variables and no clauses. Of "1 -- 0 0": V is 1, C and T are 0.
+void group_free_rows() {
+    Group group("free rows, by hand");
+    const Request one = {1, 2, 0, 1, 1}, none = {1, 0, 0, 0, 3};
+    const std::vector<std::int32_t> literals(4, 77);
+    const std::vector<std::uint32_t> pairs(5, 77), places(3, 77);
+    const std::vector<std::uint8_t> values(4, 77);
+    struct FreeRow {
+        Request q;
+        std::string text;
+        int number;
+        std::uint32_t count;
+        std::vector<std::uint32_t> added;
+    };
+    const FreeRow rows[] = {
+        {one, "", 23, 0, {77, 77, 77}},
+        // the clauses are 1 (2) and 2 (-2 1), so (1) follows
+        {one, "3 1 0 1 2 0\n", 23, 1, {2, 1, 77}},
+        {one, "3 1 0 1 0\n", 21, 0, {77, 77, 77}},
+        {one, "3 3 0 1 2 0\n", 18, 0, {77, 77, 77}},
+        {one, "3 0 1 2 3 0\n", 19, 0, {77, 77, 77}},
+        {one, "3 0 1 2 0\n", 21, 0, {77, 77, 77}},
+        {one, "7 1 0 1 2 0\n", 17, 0, {77, 77, 77}},
+        {none, "", 23, 0, {77, 77, 77}},
+        {none, "1 0 0\n", 21, 0, {77, 77, 77}},
+        {none, "1 1 0 0\n", 21, 0, {77, 77, 77}},
+        {none, "1 1 0 1 0\n", 19, 0, {77, 77, 77}},
+        {none, "1 2 0 0\n", 18, 0, {77, 77, 77}},
+        {none, "2 0 0\n", 17, 0, {77, 77, 77}},
+        {none, "1 d 1 0\n", 19, 0, {77, 77, 77}},
+        {none, "1 d 0\n", 23, 0, {77, 77, 77}},
+    };
+    for (const FreeRow& row : rows) {
+        const bool is_one = row.q.table != 0;
+        const Slices want = {is_one ? std::vector<std::int32_t>{2, -2, 1, 77} : literals,
+                             is_one ? std::vector<std::uint32_t>{0, 1, 1, 2, 77} : pairs, row.added,
+                             is_one ? std::vector<std::uint8_t>{0, 0, 0, 77}
+                                    : std::vector<std::uint8_t>{0, 0, 77, 77}};
+        const Outcome outcome =
+            check_same(group, row.q, row.text, {literals, pairs, places, values});
+        const std::string name = numbers_of(row.q) + " " + shown(row.text);
+        group.check(outcome.number == row.number && outcome.count == row.count, name,
+                    "second: " + std::to_string(outcome.number));
+        group.check(same_slices(outcome.slices, want), name, "second: slices");
+    }
+    // no clause needs no place
+    check_number(group, none, "", {0, 0, 0, 2}, 23, 0, "no place for a clause");
+    check_number(group, none, "1 1 0 0\n", {0, 0, 1, 2}, 22, 0, "no place for a pair");
+    check_number(group, none, "", {0, 0, 0, 1}, 14, 0, "one value");
+    // the clauses of P4's request, with free rows beside its two
+    for (const Request& q :
+         {Request{2, 8, 0, 1, 5}, Request{2, 2, 0, 1, 12}, Request{4, 0x8000, 0, 1, 0x7FFE}}) {
+        check_number(group, q, good, exact_lengths(q, 0), 0, 0, "P4 with free rows");
+        check_number(group, q, first + last, exact_lengths(q, 1), 0, 1, "P4 with free rows");
+        check_number(group, q, "7 0 5 6 1 2 0\n", exact_lengths(q, 1), 21, 0, "P5 with free rows");
+    }
+    group.finish();
+}
+
 // Each row has the added pairs that are left. Both must leave them.
 void group_slices_at_exit() {
     struct SliceRow {
@@ -646,9 +706,9 @@ void group_prior_values() {
 // Short slices and long texts
 // ---------------------------------------------------------------------------
 
-// A table for n inputs.
-unsigned any_table(unsigned n) {
-    return unsigned(random_numbers.below(std::size_t(1) << (1u << n)));
+// Any request, with free rows in most cases.
+Request any_request(unsigned n, unsigned r, unsigned m) {
+    return any_request(random_numbers, n, r, m);
 }
 
 // 7, 8 and 14 at their bounds, and the lowest of them that applies.
@@ -657,8 +717,10 @@ void check_short_slices(Group& group, const Request& q, const std::string& text)
     const std::string name = numbers_of(q);
     const int number = second::check_refutation(q, text, any_slices(exact, 2)).number;
     group.check(number == 0 || number > 15, name, "second: refused with enough entries");
-    for (std::size_t literals : {exact.literals, exact.literals - 1, std::size_t(0)}) {
-        for (std::size_t pairs : {exact.pairs, exact.pairs - 1, exact.pairs / 2, std::size_t(0)}) {
+    const auto less = [](std::size_t length) { return length == 0 ? 0 : length - 1; };
+    for (std::size_t literals : {exact.literals, less(exact.literals), std::size_t(0)}) {
+        for (std::size_t pairs :
+             {exact.pairs, less(exact.pairs), exact.pairs / 2, std::size_t(0)}) {
             for (std::size_t values : {exact.values, exact.values - 1, std::size_t(0)}) {
                 const Lengths lengths = {literals, pairs, random_numbers.below(5), values};
                 if (literals < exact.literals) {
@@ -683,7 +745,7 @@ void group_short_slices() {
     for (unsigned r = 0; r <= 7; r++) {
         for (unsigned m : {0u, 1u, 7u}) {
             for (unsigned n = 1; n <= 4; n++) {
-                check_short_slices(group, {n, any_table(n), r, m}, good);
+                check_short_slices(group, any_request(n, r, m), good);
             }
         }
     }
@@ -737,6 +799,11 @@ void group_refused_requests() {
             check_number(group, {1, 4, 0, 1}, text, lengths, 3, 0, "bit 2 for n = 1");
             check_number(group, {2, 16, 8, 8}, text, lengths, 3, 0, "bit 4 for n = 2");
             check_number(group, {3, 256, 0, 1}, text, lengths, 3, 0, "bit 8 for n = 3");
+            check_number(group, {1, 5, 0, 1, 1}, text, lengths, 3, 0, "3 before 24");
+            check_number(group, {1, 2, 9, 9, 4}, text, lengths, 3, 0, "free bit 2 for n = 1");
+            check_number(group, {1, 2, 0, 1, 2}, text, lengths, 24, 0, "both bits of row 1");
+            check_number(group, {1, 1, 9, 9, 1}, text, lengths, 24, 0, "24 before 4");
+            check_number(group, {4, 0xFFFF, 7, 255, 0x8000}, text, lengths, 24, 0, "24 before 5");
             check_number(group, {1, 2, 8, 1}, text, lengths, 4, 0, "r = 8");
             check_number(group, {4, 0xFFFF, 255, 255}, text, lengths, 4, 0, "r = 255");
             check_number(group, {1, 2, 0, 8}, text, lengths, 5, 0, "M = 8");
@@ -873,7 +940,8 @@ std::vector<Source> real_sources() {
     return sources;
 }
 
-// Small requests: all tables for n up to 2 and r up to 1, some others.
+// Small requests: all tables without free rows for n up to 2 and r up to 1, all
+// tables with free rows for n = 1, some others.
 std::vector<Request> small_requests() {
     std::vector<Request> all;
     for (unsigned n = 1; n <= 2; n++) {
@@ -883,11 +951,20 @@ std::vector<Request> small_requests() {
             }
         }
     }
-    for (unsigned round = 0; round < 20; round++) {
-        all.push_back({3, any_table(3), unsigned(random_numbers.below(2)), round % 4});
-        all.push_back({4, any_table(4), 0, round % 3});
-        all.push_back({unsigned(1 + round % 2), any_table(1 + round % 2), 2, round % 3});
+    for (unsigned number = 0; number < tables_with_free(1); number++) {
+        Request q = {1, 0, number % 2, 1 + number % 3};
+        set_table(q, number);
+        if (q.free != 0) all.push_back(q);
     }
+    for (unsigned round = 0; round < 20; round++) {
+        all.push_back(any_request(3, unsigned(random_numbers.below(2)), round % 4));
+        all.push_back(any_request(4, 0, round % 3));
+        all.push_back(any_request(1 + round % 2, 2, round % 3));
+        all.push_back(any_request(2, round % 2, round % 4));
+    }
+    // without a clause there is nothing to learn from
+    const auto empty = [](const Request& q) { return second::clauses(q).empty(); };
+    all.erase(std::remove_if(all.begin(), all.end(), empty), all.end());
     return all;
 }
 
@@ -956,6 +1033,7 @@ void check_damaged(Group& group, const Source& source, unsigned long copies) {
         const std::string text = damaged(source);
         Request q = source.q;
         if (random_numbers.below(50) == 0) q.table ^= 1u << random_numbers.below(1u << q.n);
+        if (random_numbers.below(50) == 0) q.free ^= 1u << random_numbers.below(1u << q.n);
         const Lengths lengths = any_lengths(exact_lengths(q, exact.added / 2));
         Slices slices = any_slices(lengths, text.size());
         if (random_numbers.below(4) == 0) {
@@ -992,13 +1070,13 @@ void groups_of_damaged() {
     std::printf("%lu damaged refutations\n", damaged_in_all);
 }
 
-// Each number must come up often enough; 2 to 5 come by the thousand in
+// Each number must come up often enough; 2 to 5 and 24 come by the thousand in
 // request_test.
 void group_numbers_seen() {
     Group group("numbers seen");
     std::printf("numbers seen:");
-    for (int number : {0, 2, 3, 4, 5, 7, 8, 14, 15, 16, 17, 18, 19, 20, 21, 22, 23}) {
-        const bool request = number >= 2 && number <= 5;
+    for (int number : {0, 2, 3, 24, 4, 5, 7, 8, 14, 15, 16, 17, 18, 19, 20, 21, 22, 23}) {
+        const bool request = (number >= 2 && number <= 5) || number == 24;
         const unsigned long least = number == 15 ? 2 : request ? 10 : 50;
         group.check(seen[number] >= least, "number " + std::to_string(number),
                     "fewer than " + std::to_string(least));
@@ -1113,6 +1191,7 @@ void run_all() {
     group_deletions();
     group_places();
     group_slices_at_exit();
+    group_free_rows();
     group_prior_pairs();
     group_prior_values();
     group_short_slices();

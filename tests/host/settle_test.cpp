@@ -18,6 +18,7 @@
 #include "lent.hpp"
 #include "long_refutation.hpp"
 #include "checks.hpp"
+#include "entries.hpp"
 #include "nordkelch.h"
 
 namespace {
@@ -44,8 +45,7 @@ Lengths needed(const Cell& cell) {
 // The network that was handed back does the job after "least" and "works", and is wrong on the same row after "fails".
 std::string network_difference(const Request& q, const std::uint8_t* network, const second::Settlement& want) {
     std::uint32_t number = std::uint32_t(random_numbers.next() >> 32);
-    const std::uint32_t answer =
-        nk_check_network(std::uint8_t(q.n), std::uint16_t(q.table), std::uint8_t(q.r), std::uint8_t(q.m), network, &number);
+    const std::uint32_t answer = ask(nk_check_network, q, network, &number);
     const bool fails = want.verdict == NK_FAILS;
     if (answer == (fails ? NK_NETWORK_WRONG : NK_NETWORK_DOES) && number == (fails ? want.number : 0)) return "";
     return ", its network is checked as " + std::to_string(answer) + " " + std::to_string(number);
@@ -60,10 +60,9 @@ second::Settlement compare(Group& group, const Cell& cell, const Lengths& length
     Lent<std::uint8_t> network(random_numbers, any_content<std::uint8_t>(random_numbers, 24, 16));
     std::uint32_t number = std::uint32_t(random_numbers.next() >> 32);
     const std::uint32_t verdict =
-        nk_settle(std::uint8_t(q.n), std::uint16_t(q.table), std::uint8_t(q.r), std::uint8_t(q.m),
-                  guarded_answer.put(cell.answer), cell.answer.size(), guarded_refutation.put(cell.refutation),
-                  cell.refutation.size(), lent.literals.data(), lent.literals.length(), lent.pairs.data(), lent.pairs.length(),
-                  lent.added.data(), lent.added.length(), lent.values.data(), lent.values.length(), network.data(), &number);
+        ask(nk_settle, q, guarded_answer.put(cell.answer), cell.answer.size(), guarded_refutation.put(cell.refutation),
+            cell.refutation.size(), lent.literals.data(), lent.literals.length(), lent.pairs.data(), lent.pairs.length(),
+            lent.added.data(), lent.added.length(), lent.values.data(), lent.values.length(), network.data(), &number);
     const second::Settlement want = second::settle(q, cell.answer, cell.refutation, before);
     std::string different = differences(lent, want.slices);
     if (verdict != want.verdict || number != want.number) {
@@ -132,7 +131,8 @@ void group_lengths(const Cell& cell) {
     group.finish();
 }
 
-// Copies with a damaged answer, refutation, table or M, or with slices that are too short. There are fewer of a long refutation.
+// Copies with a damaged answer, refutation, table or M, other free rows, or slices that are too short. There are fewer of a long
+// refutation.
 void group_damaged(const Cell& cell) {
     Group group("damaged cells");
     const std::size_t copies = std::clamp<std::size_t>(60000000 / (cell.refutation.size() + 1), 50, 25000);
@@ -143,7 +143,10 @@ void group_damaged(const Cell& cell) {
         case 0: damage(other.answer); break;
         case 1:
         case 2: damage(other.refutation); break;
-        case 3: other.q.table ^= 1u << random_numbers.below(16); break;
+        case 3:
+            // where the other number has the bit too it is 24
+            (random_numbers.below(2) == 0 ? other.q.table : other.q.free) ^= 1u << random_numbers.below(16);
+            break;
         case 4: other.q.m = unsigned(random_numbers.below(9)); break;
         case 5: {
             const int more = int(random_numbers.below(5)) - 3;

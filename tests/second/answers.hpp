@@ -207,8 +207,8 @@ inline unsigned literal_of(const Request& q, const Answer& a, int s) {
     return unsigned(v);
 }
 
-// "Reading an answer". The refusals come in this order: those of the request,
-// "2 to 5 in order"; 9 and 10 at the first line that has one; 11; 12.
+// "Reading an answer". The refusals come in this order: those of the request
+// as numbers; 9 and 10 at the first line that has one; 11; 12.
 inline Reading read_answer(const Request& q, const std::string& text) {
     const int number = refusal(q);
     if (number != 0) return {number, {}, {}};

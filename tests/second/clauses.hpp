@@ -1,8 +1,8 @@
 // A second implementation of the clause file, for tests only.
 //
-// It was written from document 01 alone, without a look at the proved code,
-// by plain nested loops. Each part names, in quotes, the sentence of
-// document 01 that it follows. Where the document can be read in two ways,
+// It was written from documents 01 and 02 alone, without a look at the proved
+// code, by plain nested loops. Each part names, in quotes, the sentence of a
+// document that it follows. Where one can be read in two ways,
 // docs/DECISIONS.md has the reading that is followed.
 #pragma once
 
@@ -13,12 +13,15 @@
 namespace second {
 
 // "A request is one line: n, the table, r, M". "Inside, [the table] is a
-// 16-bit number whose bit k is row k."
+// 16-bit number whose bit k is row k." "The request holds a second 16-bit
+// number, for free rows." It comes last here, so that a request without free
+// rows is written as before.
 struct Request {
     unsigned n;
     unsigned table;
     unsigned r;
     unsigned m;
+    unsigned free = 0;
 };
 
 using Clause = std::vector<int>;
@@ -32,9 +35,15 @@ using Clause = std::vector<int>;
 inline int refusal(const Request& q) {
     // "n is 1 to 4 inputs"
     if (q.n < 1 || q.n > 4) return 2;
-    // "a table bit at or above 2^n is 3"
+    // "a table bit at or above 2^n is 3", and "3 covers both numbers"
     const unsigned rows = 1u << q.n;
     if ((q.table >> rows) != 0) return 3;
+    if ((q.free >> rows) != 0) return 3;
+    // "24 when both bits of a row are set in a request passed as numbers, after
+    // 3": before 4 and 5
+    for (unsigned row = 0; row < rows; row++) {
+        if (((q.table >> row) & 1) == 1 && ((q.free >> row) & 1) == 1) return 24;
+    }
     // "r is 0 to 7 switches"
     if (q.r > 7) return 4;
     // "M is 0 to 7"
@@ -45,11 +54,15 @@ inline int refusal(const Request& q) {
 // A digit is a byte 0 to 9.
 inline bool is_digit(char c) { return c >= '0' && c <= '9'; }
 
-// Takes a non-empty run of digits that is followed by `end`. The place moves
-// past `end`. False when the text has another form here.
-inline bool take_run(const std::string& text, std::size_t& place, char end, std::string& run) {
+// "Refusal 1 lets "-" stand in the table".
+inline bool is_digit_or_dash(char c) { return is_digit(c) || c == '-'; }
+
+// Takes a non-empty run of characters that `may_stand` allows, followed by
+// `end`. The place moves past `end`. False when the text has another form here.
+inline bool take_run(const std::string& text, std::size_t& place, bool (*may_stand)(char),
+                     char end, std::string& run) {
     run.clear();
-    while (place < text.size() && is_digit(text[place])) {
+    while (place < text.size() && may_stand(text[place])) {
         run += text[place];
         place = place + 1;
     }
@@ -64,14 +77,20 @@ inline bool one_character(const std::string& run, char low, char high) {
 }
 
 // "The table has 2^n characters 0 or 1, row 0 first." Bit k is row k, so the
-// first character is bit 0.
-inline bool table_of(const std::string& run, unsigned n, unsigned& table) {
+// first character is bit 0. "The table takes "-" for a free row". A character
+// sets one bit at most, so 24 does not come from a line.
+inline bool table_of(const std::string& run, unsigned n, unsigned& table, unsigned& free) {
     const std::size_t rows = std::size_t(1) << n;
     if (run.size() != rows) return false;
     table = 0;
+    free = 0;
     for (std::size_t row = 0; row < rows; row++) {
-        if (run[row] != '0' && run[row] != '1') return false;
-        if (run[row] == '1') table |= 1u << row;
+        switch (run[row]) {
+            case '0': break;
+            case '1': table |= 1u << row; break;
+            case '-': free |= 1u << row; break;
+            default: return false;
+        }
     }
     return true;
 }
@@ -84,16 +103,17 @@ inline int read_request(const std::string& text, Request& out) {
     // the newline. The form of the whole line comes first.
     std::string n, table, r, m;
     std::size_t place = 0;
-    const bool form = take_run(text, place, ' ', n) && take_run(text, place, ' ', table) &&
-                      take_run(text, place, ' ', r) && take_run(text, place, '\n', m) &&
-                      place == text.size();
+    const bool form = take_run(text, place, is_digit, ' ', n) &&
+                      take_run(text, place, is_digit_or_dash, ' ', table) &&
+                      take_run(text, place, is_digit, ' ', r) &&
+                      take_run(text, place, is_digit, '\n', m) && place == text.size();
     if (!form) return 1;
 
     // "2 bad n; 3 bad table; 4 bad r; 5 bad M"
     Request q = {0, 0, 0, 0};
     if (!one_character(n, '1', '4')) return 2;
     q.n = unsigned(n[0] - '0');
-    if (!table_of(table, q.n, q.table)) return 3;
+    if (!table_of(table, q.n, q.table, q.free)) return 3;
     if (!one_character(r, '0', '7')) return 4;
     q.r = unsigned(r[0] - '0');
     if (!one_character(m, '0', '7')) return 5;
@@ -106,16 +126,26 @@ inline int read_request(const std::string& text, Request& out) {
 // Rows and literals. From here on the request is a good one.
 // ---------------------------------------------------------------------------
 
-// A row is on when its bit of the table is 1.
-inline bool is_on(const Request& q, unsigned row) { return ((q.table >> row) & 1) == 1; }
+// What a row is: "on" when its bit of the table is 1, free when its bit of the
+// second number is, else off.
+enum class Row { off, on, free };
 
-// "The number of on rows is the count of ones in the table."
-inline unsigned on_rows(const Request& q) {
-    unsigned ones = 0;
+inline Row row_of(const Request& q, unsigned row) {
+    if (((q.table >> row) & 1) == 1) return Row::on;
+    if (((q.free >> row) & 1) == 1) return Row::free;
+    return Row::off;
+}
+
+inline bool is_on(const Request& q, unsigned row) { return row_of(q, row) == Row::on; }
+
+// How many rows are of a kind. "The number of on rows is the count of ones in
+// the table."
+inline unsigned rows_of(const Request& q, Row kind) {
+    unsigned count = 0;
     for (unsigned row = 0; row < (1u << q.n); row++) {
-        if (is_on(q, row)) ones = ones + 1;
+        if (row_of(q, row) == kind) count = count + 1;
     }
-    return ones;
+    return count;
 }
 
 // "Input 0 is the highest bit of a row number: with four inputs row 6 is
@@ -175,10 +205,15 @@ inline int Z(const Request& q, int B, int t) {
 // "An off row has S(i) = B+i+1, its side of the separation."
 inline int S(int B, int i) { return B + i + 1; }
 
-// How many variables a row has: the W and Z of its steps, or its S.
+// How many variables a row has: the W and Z of its steps, its S, or none: "a
+// free row, which gets no variables or clauses".
 inline int variables_of_row(const Request& q, unsigned row) {
-    if (is_on(q, row)) return int(q.m) * int(2 * q.r + 1);
-    return terminals(q);
+    switch (row_of(q, row)) {
+        case Row::on: return int(q.m) * int(2 * q.r + 1);
+        case Row::off: return terminals(q);
+        case Row::free: return 0;
+    }
+    return 0;
 }
 
 // ---------------------------------------------------------------------------
@@ -192,8 +227,8 @@ inline void counts(const Request& q, unsigned& V, unsigned& C, unsigned& T) {
     const unsigned N = 2 * r + 2;
     const unsigned pairs = N * (N - 1) / 2;
     const unsigned triples = N * (N - 1) * (N - 2) / 6;
-    const unsigned on = on_rows(q);
-    const unsigned off = (1u << n) - on;
+    const unsigned on = rows_of(q, Row::on);
+    const unsigned off = (1u << n) - on - rows_of(q, Row::free);
 
     // Group 1: three clauses of three literals for each i<j<k.
     // Group 2: for each switch one clause of 2n literals, and one of two
@@ -350,15 +385,12 @@ inline void off_row(const Request& q, unsigned row, int B, std::vector<Clause>& 
 
 // "3. Rows rising." B is the number of variables of X, of L and of all lower
 // rows, on and off: "Then rows rising. With B variables before
-// it ...".
+// it ...". A free row has no clauses.
 inline void group_3(const Request& q, std::vector<Clause>& all) {
     int B = P(q) + int(2 * q.n * q.r);
     for (unsigned row = 0; row < (1u << q.n); row++) {
-        if (is_on(q, row)) {
-            on_row(q, row, B, all);
-        } else {
-            off_row(q, row, B, all);
-        }
+        if (row_of(q, row) == Row::on) on_row(q, row, B, all);
+        if (row_of(q, row) == Row::off) off_row(q, row, B, all);
         B = B + variables_of_row(q, row);
     }
 }

@@ -1,7 +1,7 @@
 // Every network of up to 7 switches, by trying all of them: what the least
 // number of switches is for each table and each bound M, without clauses, a
-// solver or a refutation. Rests on document 01's "Networks" alone, and shares no
-// code with the other files of this folder.
+// solver or a refutation. Rests on document 01's "Networks" and on document 02's
+// free rows alone, and shares no code with the other files of this folder.
 //
 // A network is a graph with a source and a sink, an edge for each switch, and a
 // literal on each edge. A walk of the fewest switches is a simple path, so the
@@ -13,6 +13,10 @@
 // their nets alone, or in which net is the source and which the sink, one is
 // kept. Then every choice of literals is tried: with 7 switches and 4 inputs
 // 369 graphs with 2,097,152 choices each, about ten seconds.
+//
+// Where a network conducts decides which table without free rows is its job. With
+// free rows it may do the job of many tables, and on a free row its paths may be
+// longer than M; so such a table is sought by itself.
 #pragma once
 
 #include <algorithm>
@@ -20,6 +24,7 @@
 #include <cstddef>
 #include <cstdint>
 #include <numeric>
+#include <optional>
 #include <set>
 #include <utility>
 #include <vector>
@@ -155,20 +160,70 @@ inline Rows closed_rows(unsigned n, unsigned literal) {
     return Rows(rows);
 }
 
+// The two networks without switches: apart, and with source and sink on one net.
+inline Network without_switches(bool joined) {
+    Network network;
+    network.joined = joined;
+    return network;
+}
+
+// For each path of a graph the rows on which its switches are closed.
+using Closed = std::vector<Rows>;
+
+// All literals for the switches of a graph.
+class Choices {
+  public:
+    Choices(unsigned n, const Graph& graph)
+        : paths_(paths_of(graph)), closed_(graph.size() + 1, Closed(paths_.size(), all_rows(n))) {
+        network_.graph = graph;
+        for (unsigned v = 0; v < 2 * n; v++) literals_.push_back(closed_rows(n, v));
+    }
+
+    // Hands each network to a function, with its paths and where they are closed,
+    // until the function answers true; whether it does.
+    template <typename Use>
+    bool any(Use use) {
+        return any_from(0, use);
+    }
+
+  private:
+    template <typename Use>
+    bool any_from(std::size_t s, Use& use) {
+        if (s == network_.graph.size()) return use(network_, paths_, closed_[s]);
+        for (unsigned v = 0; v < literals_.size(); v++) {
+            network_.literals[s] = v;
+            for (std::size_t p = 0; p < paths_.size(); p++) {
+                const bool uses = (paths_[p] >> s & 1) != 0;
+                closed_[s + 1][p] = uses ? closed_[s][p] & literals_[v] : closed_[s][p];
+            }
+            if (any_from(s + 1, use)) return true;
+        }
+        return false;
+    }
+
+    Network network_;
+    std::vector<Edges> paths_;
+    std::vector<Closed> closed_;  // by the first s switches alone
+    std::vector<Rows> literals_;  // the rows on which each is 1
+};
+
+// ---------------------------------------------------------------------------
+// Tables without free rows
+// ---------------------------------------------------------------------------
+
 // The least number of switches for each table of n inputs and each bound, among
 // networks of up to `most` switches, with a network of that number.
 class Enumeration {
   public:
     Enumeration(unsigned n, unsigned most)
         : n_(n), none_(most + 1), found_((most_bound + 1) * (std::size_t(all_rows(n)) + 1)) {
-        for (unsigned v = 0; v < 2 * n; v++) closed_.push_back(closed_rows(n, v));
         for (Found& found : found_) found.switches = none_;
-        place(0, 0) = {0, {}};
-        Network joined;
-        joined.joined = true;
-        place(0, all_rows(n)) = {0, joined};
+        place(0, 0) = {0, without_switches(false)};
+        place(0, all_rows(n)) = {0, without_switches(true)};
         for (unsigned k = 1; k <= most; k++) {
-            for (const Graph& graph : graphs_of(k)) try_literals(graph);
+            for (const Graph& graph : graphs_of(k)) {
+                Choices(n, graph).any([this](const auto&... choice) { return keep(choice...); });
+            }
         }
         allow_longer();
     }
@@ -184,44 +239,17 @@ class Enumeration {
         unsigned switches = 0;
         Network network;
     };
-    // for each path the rows on which its switches so far are closed
-    using Closed = std::vector<Rows>;
-
     std::size_t index(unsigned m, Rows table) const {
         return m * (std::size_t(all_rows(n_)) + 1) + table;
     }
     Found& place(unsigned m, Rows table) { return found_[index(m, table)]; }
     const Found& at(unsigned m, Rows table) const { return found_[index(m, table)]; }
 
-    void try_literals(const Graph& graph) {
-        Network network;
-        network.graph = graph;
-        const std::vector<Edges> paths = paths_of(graph);
-        std::vector<Closed> closed(graph.size() + 1, Closed(paths.size(), all_rows(n_)));
-        try_literals(network, paths, 0, closed);
-    }
-
-    // All literals for the switches from s on.
-    void try_literals(Network& network, const std::vector<Edges>& paths, std::size_t s,
-                      std::vector<Closed>& closed) {
-        if (s == network.graph.size()) {
-            keep(network, paths, closed[s]);
-            return;
-        }
-        for (unsigned v = 0; v < 2 * n_; v++) {
-            network.literals[s] = v;
-            for (std::size_t p = 0; p < paths.size(); p++) {
-                const bool uses = (paths[p] >> s & 1) != 0;
-                closed[s + 1][p] = uses ? closed[s][p] & closed_[v] : closed[s][p];
-            }
-            try_literals(network, paths, s + 1, closed);
-        }
-    }
-
     // The table whose job the network does is that of the rows on which some
     // path is closed. The lowest bound is the length of the last path, in order
-    // of length, that is closed on a row where none before it is.
-    void keep(const Network& network, const std::vector<Edges>& paths, const Closed& closed) {
+    // of length, that is closed on a row where none before it is. False, so that
+    // the next one is tried too.
+    bool keep(const Network& network, const std::vector<Edges>& paths, const Closed& closed) {
         unsigned joined = 0, bound = 0;
         for (std::size_t p = 0; p < paths.size(); p++) {
             if ((closed[p] & ~joined) == 0) continue;
@@ -231,6 +259,7 @@ class Enumeration {
         Found& best = place(bound, Rows(joined));
         const unsigned switches = unsigned(network.graph.size());
         if (switches < best.switches) best = {switches, network};
+        return false;
     }
 
     // What does the job with a bound does it with a higher one.
@@ -245,8 +274,71 @@ class Enumeration {
 
     unsigned n_;
     unsigned none_;
-    std::vector<Rows> closed_;
     std::vector<Found> found_;
+};
+
+// ---------------------------------------------------------------------------
+// Tables with free rows
+// ---------------------------------------------------------------------------
+
+// A table's on rows and free rows; the others are off.
+struct Table {
+    Rows on = 0;
+    Rows free = 0;
+};
+
+// "A network does the job when its on and off rows are right": on each on row a
+// path of at most m switches is closed, on each off row none of any length. On a
+// free row "a network may conduct [...] or not".
+inline bool does_job(const Table& table, unsigned m, const std::vector<Edges>& paths,
+                     const Closed& closed) {
+    unsigned within = 0, at_all = 0;
+    for (std::size_t p = 0; p < paths.size(); p++) {
+        at_all |= closed[p];
+        if (length(paths[p]) <= m) within |= closed[p];
+    }
+    return (table.on & ~within) == 0 && (at_all & ~(table.on | table.free)) == 0;
+}
+
+// Seeks the least network for one table after the other, among networks of n
+// inputs and up to `most` switches. A search ends with the first that does the job;
+// where none does, it tries as many as the whole enumeration.
+class Search {
+  public:
+    Search(unsigned n, unsigned most) : n_(n), none_(most + 1) {
+        for (unsigned k = 1; k <= most; k++) graphs_.push_back(graphs_of(k));
+    }
+
+    // One of the least number of switches, if there is one.
+    std::optional<Network> network(unsigned m, const Table& table) const {
+        // without switches it conducts on no row, or on all
+        if (table.on == 0) return without_switches(false);
+        if ((table.on | table.free) == all_rows(n_)) return without_switches(true);
+        std::optional<Network> found;
+        const auto does = [&](const Network& network, const std::vector<Edges>& paths,
+                              const Closed& closed) {
+            if (!does_job(table, m, paths, closed)) return false;
+            found = network;
+            return true;
+        };
+        for (const std::set<Graph>& graphs : graphs_) {
+            for (const Graph& graph : graphs) {
+                if (Choices(n_, graph).any(does)) return found;
+            }
+        }
+        return std::nullopt;
+    }
+
+    // most + 1 where no network of up to `most` switches does the job
+    unsigned least(unsigned m, const Table& table) const {
+        const std::optional<Network> found = network(m, table);
+        return found ? unsigned(found->graph.size()) : none_;
+    }
+
+  private:
+    unsigned n_;
+    unsigned none_;
+    std::vector<std::set<Graph>> graphs_;  // of 1 edge, of 2, and so on
 };
 
 // ---------------------------------------------------------------------------

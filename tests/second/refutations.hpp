@@ -247,11 +247,10 @@ inline int check_lines(RefutationState& state, const std::string& text) {
     return 23;
 }
 
-// "Checking a refutation". A refusal of 2 to 15 leaves the slices as they are
-// and has the count 0.
+// "Checking a refutation". A refusal of 2 to 15, or of 24, leaves the slices as
+// they are and has the count 0.
 inline Outcome check_refutation(const Request& q, const std::string& text, const Slices& lent) {
-    // "Each later operation tests its request again as numbers, 2 to 5 in
-    // order"
+    // "Each later operation tests its request again as numbers"
     const int refused = refusal(q);
     if (refused != 0) return {refused, 0, lent};
     RefutationState state;

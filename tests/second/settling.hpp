@@ -1,5 +1,5 @@
 // A second implementation of checking a network and of settling, written from
-// document 01 alone.
+// documents 01 and 02 alone.
 #pragma once
 
 #include <cstdint>
@@ -30,12 +30,23 @@ inline int shortest_walk(const Request& q, const Reading& network, unsigned row)
     return steps[network.labels[std::size_t(sink(q))]];
 }
 
-// "does", which is -1 here, or the lowest wrong row.
+// Whether a network is right on a row. On a free row it "may conduct [...] or
+// not".
+inline bool is_right(const Request& q, const Reading& network, unsigned row) {
+    const int walk = shortest_walk(q, network, row);
+    switch (row_of(q, row)) {
+        case Row::on: return walk >= 0 && walk <= int(q.m);
+        case Row::off: return walk < 0;
+        case Row::free: return true;
+    }
+    return false;
+}
+
+// "does", which is -1 here, or the lowest wrong row. "A network does the job
+// when its on and off rows are right".
 inline int wrong_row(const Request& q, const Reading& network) {
     for (unsigned row = 0; row < (1u << q.n); row++) {
-        const int walk = shortest_walk(q, network, row);
-        const bool right = is_on(q, row) ? walk >= 0 && walk <= int(q.m) : walk < 0;
-        if (!right) return int(row);
+        if (!is_right(q, network, row)) return int(row);
     }
     return -1;
 }

@@ -73,7 +73,7 @@ ended q l =
     (refusedWith 11))
     (refusedWith (l .refusal))
 
--- reading an answer: 2 to 5, then the lines, then what is missing
+-- reading an answer: the refusals of the request, then the lines, then what is missing
 unfoldable pub readingOf : Request → List ℕ → Decoded
 readingOf q t =
     cond (eqb (refusalOf q) 0)

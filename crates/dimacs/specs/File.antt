@@ -52,7 +52,7 @@ fileText q = headText (variableCount q) (length (formulaOf q)) ++ bodyText (form
 abbrev pub answerBy : ℕ → ℕ → Answer
 answerBy k size = cond (eqb k 0) (Bytes size) (Refused k)
 
--- "Size of file: only 2 to 5", so its number is that of the test of numbers; the result is the length
+-- "Size of file: only 2 to 5", and since document 02 24: its number is that of the test of numbers; the result is the length
 unfoldable pub sizeValues : Request → List ℕ
 sizeValues q = cond (eqb (refusalOf q) 0) (length (fileText q) ∷ []) []
 
@@ -65,7 +65,7 @@ abbrev pub Bounded : Request → Answer → Type 0
 Bounded q (Bytes k) = (length (fileText q) ≤ k) × (k ≤ 8 * (literalCount q + clauseCount q) + 32)
 Bounded q (Refused x) = Unit {0}
 
--- "Writing the file: 6 if the buffer is shorter than the file", after 2 to 5; 0 where it is written
+-- "Writing the file: 6 if the buffer is shorter than the file", after the refusals of the request; 0 where it is written
 unfoldable pub writeNumber : Request → ℕ → ℕ
 writeNumber q room = cond (eqb (refusalOf q) 0) (cond (ltb room (length (fileText q))) 6 0) (refusalOf q)
 

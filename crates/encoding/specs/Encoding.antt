@@ -1,13 +1,15 @@
 -- A request's clauses are satisfiable exactly when some network of r switches does its job: an assignment that satisfies them
 -- gives the network decoded from it, and a network gives the values of X, L and the rows. Assumes nothing.
 use mathlib.Core.Path.{_≡_, sym, subst}
-use mathlib.Core.Bool.{Bool, true, false, cond}
+use mathlib.Core.Bool.{Bool}
 use mathlib.Core.List.{List, [], _∷_, _++_}
 use mathlib.Core.Logic.{_↔_}
 use Prim.Native.Nat.{ℕ, _+_}
 use Rattle.cnf.specs.Cnf.{Formula, Assignment, Sat, Satisfiable}
 use Rattle.cnf.specs.Cnf.Parts.{Sat-split, Sat-join}
-use Rattle.rows.specs.Rows.{Row, rowsOf}
+use Rattle.rows.specs.Rows.{Row, rowsOf, byKind}
+use Rattle.rows.specs.declared.Kind.{Kind}
+use Rattle.rows.specs.declared.Kind.the-variants.{On, Off, Free}
 use Rattle.request.specs.declared.Request.{Request}
 use Rattle.network.specs.Networks.{Net, labelAt, switches, FormedAs, Formed, closedOn, DoneIf, DoesAll, Does}
 use Rattle.network.specs.Value.{listed}
@@ -22,7 +24,7 @@ use Rattle.encoding.specs.Values.{valued, joinedValues, chosenValues, ro
 -- ---- a satisfying assignment gives a network
 -- the clauses of the rows
 abbrev rowsClauses : Request → Formula
-rowsClauses q = rowsFrom (q .n) (q .r) (q .m) (networkVariables (q .n) (q .r)) (rowsOf (q .n) (q .table))
+rowsClauses q = rowsFrom (q .n) (q .r) (q .m) (networkVariables (q .n) (q .r)) (rowsOf q)
 
 -- the three groups of clauses
 groups : (q : Request) (α : Assignment) → Sat α (formulaOf q)
@@ -35,10 +37,11 @@ groups q α s =
 
 module _ (n r m : ℕ) (w : Net) (α : Assignment) (stands : Stands n r w α) where
   -- a row whose clauses hold is done
-  row-done : (B : ℕ) (row : Row) (on : Bool) → Sat α (cond on (onRow n r m B (row .value)) (offRow n (terminals r) r B (row .value)))
-      → DoneIf on r m (closedOn row w) (labelAt w)
-  row-done B row true s = on-walk n r m w α stands B row s
-  row-done B row false s = off-none n r m w α stands B row s
+  row-done : (B : ℕ) (row : Row) (x : Kind) → Sat α (byKind (onRow n r m B (row .value)) (offRow n (terminals r) r B (row .value)) [] x)
+      → DoneIf x r m (closedOn row w) (labelAt w)
+  row-done B row On s = on-walk n r m w α stands B row s
+  row-done B row Off s = off-none n r m w α stands B row s
+  row-done B row Free s = tt
 
   -- and so is each of some rows
   rows-done : (B : ℕ) (rows : List Row) → Sat α (rowsFrom n r m B rows) → DoesAll r m w rows
@@ -46,7 +49,7 @@ module _ (n r m : ℕ) (w : Net) (α : Assignment) (stands : Stands n r w α) wh
   rows-done B [] s = tt
   rows-done B (row ∷ rows) s =
       let two = Sat-split α (rowClauses n r m B row) (rowsFrom n r m (B + rowVariables r m row) rows) s in
-      (row-done B row (row .on) (two .0), rows-done (B + rowVariables r m row) rows (two .1))
+      (row-done B row (row .kind) (two .0), rows-done (B + rowVariables r m row) rows (two .1))
 
 -- the network of an assignment
 abbrev made : Request → Assignment → Net
@@ -68,9 +71,9 @@ satisfied-formed q α s =
 pub satisfied-does : (q : Request) (α : Assignment) → Sat α (formulaOf q) → Does q (listed (q .r) (decoded (q .n) (q .r) α))
 satisfied-does q α s =
     let g = groups q α s in
-    subst (λ (k : ℕ). DoesAll k (q .m) (made q α) (rowsOf (q .n) (q .table))) (sym (satisfied-switches q α s))
+    subst (λ (k : ℕ). DoesAll k (q .m) (made q α) (rowsOf q)) (sym (satisfied-switches q α s))
     (rows-done (q .n) (q .r) (q .m) (made q α) α (decoded-stands q α (g .0) (g .1))
-    (networkVariables (q .n) (q .r)) (rowsOf (q .n) (q .table)) (g .2))
+    (networkVariables (q .n) (q .r)) (rowsOf q) (g .2))
 
 -- ---- a network that does the job of some rows gives an assignment that satisfies their clauses
 does-satisfies : (n r m : ℕ) (rows : List Row) (w : Net) → FormedAs n r w → DoesAll r m w rows
@@ -96,7 +99,7 @@ unfolding formulaOf
 encoding q = (
   λ (α, s). (listed (q .r) (decoded (q .n) (q .r) α), satisfied-switches q α s, satisfied-formed q α s, satisfied-does q α s),
   λ (w, size, form, does).
-      does-satisfies (q .n) (q .r) (q .m) (rowsOf (q .n) (q .table)) w
+      does-satisfies (q .n) (q .r) (q .m) (rowsOf q) w
       (subst (λ (k : ℕ). FormedAs (q .n) k w) size form)
-      (subst (λ (k : ℕ). DoesAll k (q .m) w (rowsOf (q .n) (q .table))) size does),
+      (subst (λ (k : ℕ). DoesAll k (q .m) w (rowsOf q)) size does),
 )

@@ -1,7 +1,7 @@
 -- "A dangling switch may be added": a network with one switch more, whose two ends are alone on their nets, does the same job.
 -- The new switch is the last one, so the sink moves up by two terminals. Assumes nothing.
 use mathlib.Core.Path.{_≡_, refl, sym, ap, ap₂, _∙_, subst}
-use mathlib.Core.Bool.{Bool, true, false, cond}
+use mathlib.Core.Bool.{cond}
 use mathlib.Core.List.{List, [], _∷_, _++_}
 use mathlib.Core.Logic.{⊎-elim, _≢_}
 use Prim.Native.Nat.{ℕ, zero, suc, _+_, _*_, _≤_, _<_}
@@ -13,6 +13,8 @@ use Rattle.prelude.specs.Tests.{le?, cond-true, cond-false}
 use Rattle.prelude.specs.Lists.{tab}
 use Rattle.prelude.specs.Lists.Laws.{length-tab, getD-tab, each-then}
 use Rattle.rows.specs.Rows.{Row, rowsOf}
+use Rattle.rows.specs.declared.Kind.{Kind}
+use Rattle.rows.specs.declared.Kind.the-variants.{On, Off, Free}
 use Rattle.request.specs.declared.Request.{Request}
 use Rattle.network.specs.Networks.{terminals, Net, source, sink, switchOf, other, literalAt, labelAt, switches, FormedAs, Formed, closedOn, Walk, DoneIf, Done, DoesAll, Does}
 
@@ -251,19 +253,20 @@ module _ (n r : ℕ) (w : Net) (size : switches w ≡ r) (form : FormedAs n r w)
     sink-at = moved-high r (sink r) (omega arith) ∙ omega arith
 
     -- a row that is done stays done
-    row-grown : (on : Bool) (m : ℕ) → DoneIf on r m (closedOn row w) (labelAt w)
-        → DoneIf on (suc r) m (closedOn row (grown w)) (labelAt (grown w))
-    row-grown true m d = (
+    row-grown : (x : Kind) (m : ℕ) → DoneIf x r m (closedOn row w) (labelAt w)
+        → DoneIf x (suc r) m (closedOn row (grown w)) (labelAt (grown w))
+    row-grown On m d = (
       d .0,
       d .1,
       rw (← source-at, ← sink-at) (walk-up (d .0) source (sink r) (omega arith) (omega arith) (d .2)),
     )
-    row-grown false m d = λ es x.
+    row-grown Off m d = λ es x.
         d es (walk-down es source (sink r) (omega arith) (omega arith) (rw (source-at, sink-at) x))
+    row-grown Free m d = tt
 
   -- and so does each of some rows
   pub grown-does : (m : ℕ) (rows : List Row) → DoesAll r m w rows → DoesAll (suc r) m (grown w) rows
-  grown-does m rows d = each-then (Done r m w) (Done (suc r) m (grown w)) rows (λ row x. row-grown row (row .on) m x) d
+  grown-does m rows d = each-then (Done r m w) (Done (suc r) m (grown w)) rows (λ row x. row-grown row (row .kind) m x) d
 
 -- a network that does a request's job may have one switch more
 pub one-more : (q : Request) → 0 < q .n → (w : Net) → Formed q w → Does q w
@@ -273,6 +276,6 @@ one-more q inputs w form does =
       grown w,
       more,
       subst (λ (k : ℕ). FormedAs (q .n) k (grown w)) (sym more) (grown-formed (q .n) (switches w) w refl form inputs),
-      subst (λ (k : ℕ). DoesAll k (q .m) (grown w) (rowsOf (q .n) (q .table))) (sym more)
-          (grown-does (q .n) (switches w) w refl form (q .m) (rowsOf (q .n) (q .table)) does),
+      subst (λ (k : ℕ). DoesAll k (q .m) (grown w) (rowsOf q)) (sym more)
+          (grown-does (q .n) (switches w) w refl form (q .m) (rowsOf q) does),
     )

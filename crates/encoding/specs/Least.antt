@@ -7,10 +7,11 @@ use native.Mathlib.Omega.{arith}
 use Rattle.prelude.specs.Tests.{le?}
 use Rattle.cnf.specs.Cnf.{Satisfiable}
 use Rattle.request.specs.declared.Request.{Request}
-use Rattle.request.specs.Numbers.{refusalOf}
+use Rattle.request.specs.Numbers.{withSwitches, refusalOf}
 use Rattle.request.specs.Numbers.Laws.{refusal-good}
 use Rattle.network.specs.declared.Network.{Network}
 use Rattle.network.specs.Networks.{Net, switches, Formed, Does}
+use Rattle.network.specs.Networks.Laws.{does-with}
 use Rattle.network.specs.Value.{listed}
 use Rattle.network.specs.Least.{LeastFor, MoreThan}
 use Rattle.network.specs.Least.Laws.{least-switches}
@@ -43,18 +44,14 @@ pub unsat-least : (q : Request) → refusalOf q ≡ 0 → (Satisfiable (formulaO
 unsat-least q good none =
     least q (refusal-good q good .n-low) (q .r) (λ w size form does. none (encoding q .1 (w, size, form, does)))
 
--- the request for another number of switches
-abbrev pub withSwitches : Request → ℕ → Request
-withSwitches q r = record { n = q .n; table = q .table; r = r; m = q .m }
-
 -- where a network is least, with k switches, the clauses for r switches are satisfiable exactly when r is k or more
 pub least-satisfiable : (q : Request) (w : Network) → LeastFor q w → (r : ℕ) → refusalOf (withSwitches q r) ≡ 0
     → Satisfiable (formulaOf (withSwitches q r)) ↔ (q .r ≤ r)
 least-satisfiable q w l r good =
     let m = encoding (withSwitches q r) in (
-      λ s. let v = m .0 s in let h = l .least (v .0) (v .2) (v .3) in omega (arith, v .1),
+      λ s. let v = m .0 s in let h = l .least (v .0) (v .2) (does-with q r (v .0) .0 (v .3)) in omega (arith, v .1),
       λ h.
           let k = least-switches q w l in
           let v = more q (refusal-good (withSwitches q r) good .n-low) (r - q .r) (listed (q .r) w) (l .form) (l .does) in
-          m .1 (v .0, (let e = v .1 in omega arith), v .2, v .3),
+          m .1 (v .0, (let e = v .1 in omega arith), v .2, does-with q r (v .0) .1 (v .3)),
     )

@@ -12,6 +12,7 @@ use Rattle.prelude.specs.Blocks.{for}
 use Rattle.cnf.specs.Cnf.{Formula, Assignment, Sat}
 use Rattle.cnf.specs.Cnf.Parts.{Sat-split, for-out, Sat-join, for-in, cond-in, then-out, one-out, same-out, same-in}
 use Rattle.rows.specs.Rows.{Row}
+use Rattle.rows.specs.declared.Kind.the-variants.{Off}
 use Rattle.network.specs.Networks.{Net, source, sink, switchOf, other, literalAt, labelAt, closedOn, Walk, DoneIf}
 use Rattle.network.specs.Check.{part}
 use Rattle.network.specs.Meaning.Laws.{part-label, part-switch, part-walk}
@@ -158,7 +159,7 @@ module _ (n r m : ℕ) (w : Net) (α : Assignment) (stands : Stands n r w α) (B
       (λ _. tt)))
 
   -- where an off row's clauses hold, no walk joins the source and the sink
-  pub off-none : Sat α (offRow n (terminals r) r B (row .value)) → DoneIf false r m (closedOn row w) (labelAt w)
+  pub off-none : Sat α (offRow n (terminals r) r B (row .value)) → DoneIf Off r m (closedOn row w) (labelAt w)
   unfolding offRow
   off-none s =
       let two = Sat-split α (netSides (terminals r) B) (switchSides n (terminals r) r B (row .value)) (s .1 .1) in
@@ -171,7 +172,7 @@ module _ (n r m : ℕ) (w : Net) (α : Assignment) (stands : Stands n r w α) (B
       }
 
   -- and they hold where none does and the values of S are the sides of the parts
-  pub none-off : DoneIf false r m (closedOn row w) (labelAt w)
+  pub none-off : DoneIf Off r m (closedOn row w) (labelAt w)
       → ((i : ℕ) → i < terminals r → side i ≡ sideOf r (closedOn row w) (labelAt w) i)
       → Sat α (offRow n (terminals r) r B (row .value))
   unfolding offRow

@@ -1,7 +1,7 @@
 -- An on row: its clauses hold of some values of W and Z exactly when a walk from the source to the sink uses at most M closed
 -- switches. Assumes nothing.
 use mathlib.Core.Path.{_≡_, refl, sym, ap, _∙_, subst}
-use mathlib.Core.Bool.{Bool, true, false, not, cond}
+use mathlib.Core.Bool.{Bool, false, not, cond}
 use mathlib.Core.List.{List, [], _∷_, _++_}
 use mathlib.Core.Logic.{_⊎_, inl, inr, ⊎-elim, _≢_}
 use Prim.Native.Nat.{ℕ, zero, suc, _+_, _-_, _*_, _≤_, _<_}
@@ -14,6 +14,7 @@ use Rattle.prelude.specs.Blocks.Laws.{for-last}
 use Rattle.cnf.specs.Cnf.{pos, neg, Clause, Formula, Assignment, clauseHolds, Sat}
 use Rattle.cnf.specs.Cnf.Parts.{Sat-split, for-out, imp2, no2, Sat-join, for-in, cond-in, then-out, else-out, some-from, some-in, one-out, imp1, imp1-in, imp2-in, no2-in}
 use Rattle.rows.specs.Rows.{Row}
+use Rattle.rows.specs.declared.Kind.the-variants.{On}
 use Rattle.network.specs.Networks.{Net, source, sink, switchOf, other, literalAt, labelAt, closedOn, Enters, Walk, DoneIf}
 use Rattle.formula.specs.Formula.{terminals, X, L, W, Z, someStep, closedStep, firstStep, linkStep, lastStep, onRow}
 use Rattle.encoding.specs.Stands.{Stands, joined-in, joined-out, chosen-in, chosen-out}
@@ -330,7 +331,7 @@ module _ (n r m : ℕ) (w : Net) (α : Assignment) (stands : Stands n r w α) (B
       (Sat-join α (firstStep r B) _ (first-hold h) (Sat-join α (linkStep r m B) (lastStep r m B) (link-hold h) (last-hold h))))
 
   -- where an on row's clauses hold, a walk of at most M closed switches joins the source and the sink
-  pub on-walk : Sat α (onRow n r m B (row .value)) → DoneIf true r m (closedOn row w) (labelAt w)
+  pub on-walk : Sat α (onRow n r m B (row .value)) → DoneIf On r m (closedOn row w) (labelAt w)
   unfolding onRow
   on-walk s =
       ⊎-elim

@@ -1,7 +1,7 @@
 -- The values of all variables that a network and its walks give, as one list in the order of the variables: X, L, then for each
 -- row the steps of a walk or the sides. Assumes nothing.
 use mathlib.Core.Path.{_≡_, refl, sym, ap, ap₂, _∙_}
-use mathlib.Core.Bool.{Bool, true, false, cond}
+use mathlib.Core.Bool.{Bool, false}
 use mathlib.Core.List.{List, [], _∷_, _++_}
 use mathlib.Core.Logic.{⊎-elim, _≢_}
 use Prim.Native.Nat.{ℕ, _+_, _-_, _*_, _≤_, _<_}
@@ -17,7 +17,9 @@ use Rattle.prelude.specs.Blocks.{each}
 use Rattle.prelude.specs.Blocks.Laws.{each-length, each-at, singles-length, singles-at}
 use Rattle.cnf.specs.Cnf.{Assignment, Sat}
 use Rattle.cnf.specs.Cnf.Parts.{Sat-join}
-use Rattle.rows.specs.Rows.{Row}
+use Rattle.rows.specs.Rows.{Row, byKind}
+use Rattle.rows.specs.declared.Kind.{Kind}
+use Rattle.rows.specs.declared.Kind.the-variants.{On, Off, Free}
 use Rattle.network.specs.Networks.{Net, literalAt, labelAt, closedOn, FormedAs, DoneIf, DoesAll}
 use Rattle.formula.specs.Formula.{terminals, pairNumber, X, P, L, W, S, onRow, offRow, rowVariables, rowClauses, rowsFrom, networkVariables}
 use Rattle.formula.specs.Formula.Laws.{joined-low, joined-high, pair-number, pairs-count}
@@ -44,15 +46,16 @@ chosenValues n r w = each r (λ s. each (2 * n) (λ v. eqb (literalAt w s) v ∷
 abbrev pub stepValues : ℕ → List ℕ → ℕ → List Bool
 stepValues r es t = each (2 * r + 1) (λ e. entered r es (t + 1) (e + 1) ∷ [])
 
--- W and Z of an on row, from a walk; S of an off row
-unfoldable pub rowValues : (on : Bool) (r m : ℕ) (shut : ℕ → Bool) (label : ℕ → ℕ) → DoneIf on r m shut label → List Bool
-rowValues true r m shut label d = each m (stepValues r (d .0))
-rowValues false r m shut label d = each (terminals r) (λ i. sideOf r shut label i ∷ [])
+-- W and Z of an on row, from a walk; S of an off row; a free row has no variables
+unfoldable pub rowValues : (x : Kind) (r m : ℕ) (shut : ℕ → Bool) (label : ℕ → ℕ) → DoneIf x r m shut label → List Bool
+rowValues On r m shut label d = each m (stepValues r (d .0))
+rowValues Off r m shut label d = each (terminals r) (λ i. sideOf r shut label i ∷ [])
+rowValues Free r m shut label d = []
 
 -- the rows, rising
 unfoldable pub rowsValues : (r m : ℕ) (w : Net) (rows : List Row) → DoesAll r m w rows → List Bool
 rowsValues r m w [] d = []
-rowsValues r m w (row ∷ rows) d = rowValues (row .on) r m (closedOn row w) (labelAt w) (d .0) ++ rowsValues r m w rows (d .1)
+rowsValues r m w (row ∷ rows) d = rowValues (row .kind) r m (closedOn row w) (labelAt w) (d .0) ++ rowsValues r m w rows (d .1)
 
 -- equality as a test, the other way round
 equal-back : (a b : ℕ) → eqb a b ≡ eqb b a
@@ -147,15 +150,16 @@ steps-long r es t = singles-length (2 * r + 1) (λ e. entered r es (t + 1) (e + 
 
 module _ (r m : ℕ) (shut : ℕ → Bool) (label : ℕ → ℕ) where
   -- a row has as many values as variables
-  row-long : (on : Bool) (d : DoneIf on r m shut label)
-      → length (rowValues on r m shut label d) ≡ cond on (m * (2 * r + 1)) (terminals r)
+  row-long : (x : Kind) (d : DoneIf x r m shut label)
+      → length (rowValues x r m shut label d) ≡ byKind (m * (2 * r + 1)) (terminals r) 0 x
   unfolding rowValues
-  row-long true d = each-length m (2 * r + 1) (stepValues r (d .0)) (λ t h. steps-long r (d .0) t)
-  row-long false d = singles-length (terminals r) (sideOf r shut label)
+  row-long On d = each-length m (2 * r + 1) (stepValues r (d .0)) (λ t h. steps-long r (d .0) t)
+  row-long Off d = singles-length (terminals r) (sideOf r shut label)
+  row-long Free d = refl
 
   -- the value of W(t,e) or Z(t)
-  step-at : (d : DoneIf true r m shut label) (t e : ℕ) → 1 ≤ t → t ≤ m → 1 ≤ e → e ≤ 2 * r + 1
-      → getD (rowValues true r m shut label d) ((t - 1) * (2 * r + 1) + (e - 1)) false ≡ entered r (d .0) t e
+  step-at : (d : DoneIf On r m shut label) (t e : ℕ) → 1 ≤ t → t ≤ m → 1 ≤ e → e ≤ 2 * r + 1
+      → getD (rowValues On r m shut label d) ((t - 1) * (2 * r + 1) + (e - 1)) false ≡ entered r (d .0) t e
   unfolding rowValues
   step-at d t e l u k h =
       let before : t - 1 + 1 ≡ t = omega arith in
@@ -165,33 +169,34 @@ module _ (r m : ℕ) (shut : ℕ → Bool) (label : ℕ → ℕ) where
       ∙ ap₂ (λ (x y : ℕ). entered r (d .0) x y) before below
 
   -- the value of S(i)
-  side-at : (d : DoneIf false r m shut label) (i : ℕ) → i < terminals r
-      → getD (rowValues false r m shut label d) i false ≡ sideOf r shut label i
+  side-at : (d : DoneIf Off r m shut label) (i : ℕ) → i < terminals r
+      → getD (rowValues Off r m shut label d) i false ≡ sideOf r shut label i
   unfolding rowValues
   side-at d i h = singles-at (terminals r) i (sideOf r shut label) false h
 
 module _ (n r m : ℕ) (w : Net) (values : List Bool) (stands : Stands n r w (valued values)) where
   -- the values of a row
-  abbrev valuesOf : (row : Row) (on : Bool) → DoneIf on r m (closedOn row w) (labelAt w) → List Bool
-  valuesOf row on d = rowValues on r m (closedOn row w) (labelAt w) d
+  abbrev valuesOf : (row : Row) (x : Kind) → DoneIf x r m (closedOn row w) (labelAt w) → List Bool
+  valuesOf row x d = rowValues x r m (closedOn row w) (labelAt w) d
 
   -- the clauses of a row hold where its values stand after B others
-  row-holds : (B : ℕ) (row : Row) (on : Bool) (d : DoneIf on r m (closedOn row w) (labelAt w))
-      → ((k : ℕ) → k < length (valuesOf row on d) → getD values (B + k) false ≡ getD (valuesOf row on d) k false)
-      → Sat (valued values) (cond on (onRow n r m B (row .value)) (offRow n (terminals r) r B (row .value)))
+  row-holds : (B : ℕ) (row : Row) (x : Kind) (d : DoneIf x r m (closedOn row w) (labelAt w))
+      → ((k : ℕ) → k < length (valuesOf row x d) → getD values (B + k) false ≡ getD (valuesOf row x d) k false)
+      → Sat (valued values) (byKind (onRow n r m B (row .value)) (offRow n (terminals r) r B (row .value)) [] x)
   unfolding W S
-  row-holds B row true d is =
+  row-holds B row On d is =
       walk-on-row n r m w (valued values) stands B row (d .0) (d .1) (d .2) (λ t e l u k h.
       let place : ℕ = (t - 1) * (2 * r + 1) + (e - 1) in
       let z : B + (t - 1) * (2 * r + 1) + e - 1 ≡ B + place = omega arith in
       let low : place < m * (2 * r + 1) = digits-lt {q = t - 1} {m = m} {r = e - 1} {c = 2 * r + 1} (omega arith) (omega arith) in
-      let long = row-long r m (closedOn row w) (labelAt w) true d in
+      let long = row-long r m (closedOn row w) (labelAt w) On d in
       ap (λ (x : ℕ). getD values x false) z ∙ is place (omega arith) ∙ step-at r m (closedOn row w) (labelAt w) d t e l u k h)
-  row-holds B row false d is =
+  row-holds B row Off d is =
       none-off n r m w (valued values) stands B row d (λ i h.
       let z : B + i + 1 - 1 ≡ B + i = omega arith in
-      let long = row-long r m (closedOn row w) (labelAt w) false d in
+      let long = row-long r m (closedOn row w) (labelAt w) Off d in
       ap (λ (x : ℕ). getD values x false) z ∙ is i (omega arith) ∙ side-at r m (closedOn row w) (labelAt w) d i h)
+  row-holds B row Free d is = tt
 
   -- and those of all rows
   pub rows-hold : (B : ℕ) (rows : List Row) (d : DoesAll r m w rows)
@@ -200,11 +205,11 @@ module _ (n r m : ℕ) (w : Net) (values : List Bool) (stands : Stands n r w (va
   unfolding rowsFrom rowClauses rowVariables rowsValues
   rows-hold B [] d is = tt
   rows-hold B (row ∷ rows) d is =
-      let these : List Bool = valuesOf row (row .on) (d .0) in
+      let these : List Bool = valuesOf row (row .kind) (d .0) in
       let those : List Bool = rowsValues r m w rows (d .1) in
-      let long : length these ≡ rowVariables r m row = row-long r m (closedOn row w) (labelAt w) (row .on) (d .0) in
+      let long : length these ≡ rowVariables r m row = row-long r m (closedOn row w) (labelAt w) (row .kind) (d .0) in
       Sat-join (valued values) (rowClauses n r m B row) (rowsFrom n r m (B + rowVariables r m row) rows)
-      (row-holds B row (row .on) (d .0) (λ k h. is k ∙ List·getD-append these those false k h))
+      (row-holds B row (row .kind) (d .0) (λ k h. is k ∙ List·getD-append these those false k h))
       (rows-hold (B + rowVariables r m row) rows (d .1) (λ k.
       let z : B + rowVariables r m row + k ≡ B + (length these + k) = omega arith in
       ap (λ (x : ℕ). getD values x false) z ∙ is (length these + k) ∙ getD-append-add these those k false))

@@ -1,9 +1,9 @@
--- How many variables, clauses and literals a request's clauses have, by the count of on rows (document 01: "V is the number of
+-- How many variables, clauses and literals a request's clauses have, by the counts of on and off rows (document 01: "V is the number of
 -- variables, C of clauses, T of literals in all clauses"). Assumes nothing.
 use mathlib.Core.Bool.{cond}
 use lib.Dec.{eqb}
 use Prim.Native.Nat.{ℕ, _+_, _-_, _*_, _/_, _^_}
-use Rattle.rows.specs.Rows.{onBelow}
+use Rattle.rows.specs.Rows.{setBelow, offBelow}
 use Rattle.request.specs.Numbers.{inputsMost, switchesMost, seriesMost, rowsMost, refusalOf}
 use Rattle.request.specs.declared.Request.{Request}
 use Rattle.network.specs.Value.{terminalsMost}
@@ -37,21 +37,21 @@ networkCount n r = triplesBefore (terminals r) (terminals r) * 3 + r * (pairsBef
 abbrev pub networkLiterals : ℕ → ℕ → ℕ
 networkLiterals n r = 3 * (triplesBefore (terminals r) (terminals r) * 3) + r * (2 * n + 2 * pairsBefore (2 * n) (2 * n))
 
--- a for each on row below row k, b for each off row
-unfoldable pub split : ℕ → ℕ → ℕ → ℕ → ℕ
-split table a b k = onBelow table k * a + (k - onBelow table k) * b
+-- a for each on row below row k, of which there are as many as ones in the table, and b for each off row
+unfoldable pub split : Request → ℕ → ℕ → ℕ → ℕ
+split q a b k = setBelow (q .table) k * a + offBelow q k * b
 
 -- the variables before row k: X and L, and those of the lower rows
 unfoldable pub variablesBefore : Request → ℕ → ℕ
-variablesBefore q k = networkVariables (q .n) (q .r) + split (q .table) (q .m * (2 * q .r + 1)) (terminals (q .r)) k
+variablesBefore q k = networkVariables (q .n) (q .r) + split q (q .m * (2 * q .r + 1)) (terminals (q .r)) k
 
 -- the clauses of the rows below row k
 unfoldable pub clausesBefore : Request → ℕ → ℕ
-clausesBefore q k = split (q .table) (onRowCount (q .n) (q .r) (q .m)) (offRowCount (q .n) (terminals (q .r)) (q .r)) k
+clausesBefore q k = split q (onRowCount (q .n) (q .r) (q .m)) (offRowCount (q .n) (terminals (q .r)) (q .r)) k
 
 -- the literals of the rows below row k
 unfoldable pub literalsBefore : Request → ℕ → ℕ
-literalsBefore q k = split (q .table) (onRowLiterals (q .n) (q .r) (q .m)) (offRowLiterals (q .n) (terminals (q .r)) (q .r)) k
+literalsBefore q k = split q (onRowLiterals (q .n) (q .r) (q .m)) (offRowLiterals (q .n) (terminals (q .r)) (q .r)) k
 
 -- the most X and L variables of a request
 abbrev pub valuesMost : ℕ

@@ -6,7 +6,7 @@ use Prim.Native.Nat.{ℕ, _+_, _-_, _*_, _/_}
 use lib.Dec.{eqb, ltb}
 use Rattle.prelude.specs.Blocks.{for}
 use Rattle.cnf.specs.Cnf.{pos, neg, Formula}
-use Rattle.rows.specs.Rows.{Row, rowsOf}
+use Rattle.rows.specs.Rows.{Row, rowsOf, byKind}
 use Rattle.request.specs.declared.Request.{Request}
 use Rattle.network.specs.Networks.{source, sink, switchOf, other}
 -- "There are N = 2r+2 terminals", passed on
@@ -128,13 +128,13 @@ switchSides n N r B value =
 unfoldable pub offRow : ℕ → ℕ → ℕ → ℕ → (ℕ → Bool) → Formula
 offRow n N r B value = (neg (S B source) ∷ []) ∷ (pos (S B (sink r)) ∷ []) ∷ (netSides N B ++ switchSides n N r B value)
 
--- the variables of a row
+-- the variables of a row; "a free row, which gets no variables or clauses" (document 02, U1)
 unfoldable pub rowVariables : ℕ → ℕ → Row → ℕ
-rowVariables r m row = cond (row .on) (m * (2 * r + 1)) (terminals r)
+rowVariables r m row = byKind (m * (2 * r + 1)) (terminals r) 0 (row .kind)
 
 -- the clauses of a row
 unfoldable pub rowClauses : ℕ → ℕ → ℕ → ℕ → Row → Formula
-rowClauses n r m B row = cond (row .on) (onRow n r m B (row .value)) (offRow n (terminals r) r B (row .value))
+rowClauses n r m B row = byKind (onRow n r m B (row .value)) (offRow n (terminals r) r B (row .value)) [] (row .kind)
 
 -- "Then rows rising. With B variables before it"
 unfoldable pub rowsFrom : ℕ → ℕ → ℕ → ℕ → List Row → Formula
@@ -148,4 +148,4 @@ formula n r m rows =
 
 -- the clauses of a request
 unfoldable pub formulaOf : Request → Formula
-formulaOf q = formula (q .n) (q .r) (q .m) (rowsOf (q .n) (q .table))
+formulaOf q = formula (q .n) (q .r) (q .m) (rowsOf q)

@@ -1,21 +1,23 @@
 -- What storing clauses answers and leaves. Assumes nothing.
 use mathlib.Core.Bool.{cond}
-use mathlib.Core.List.{List, map}
-use Prim.Native.Nat.{ℕ, _+_, _*_, _^_, _≤_, _<_}
+use mathlib.Core.List.{List, [], map}
+use Prim.Native.Nat.{ℕ, _+_, _*_, _≤_, _<_}
 use lib.Dec.{eqb, ltb}
 use lib.IntN.{ℤ}
-use lib.ListN.{length}
+use lib.ListN.{length, getD}
 use Rattle.prelude.specs.Blocks.{flatten, pairsFrom}
 use Rattle.prelude.specs.Written.{written}
 use Rattle.cnf.specs.Cnf.{Formula, signedOf}
 use Rattle.cnf.specs.declared.Literal.{Literal}
 use Rattle.request.specs.Numbers.{Good, refusalOf}
 use Rattle.request.specs.declared.Request.{Request}
+use Rattle.formula.specs.Clause.{Low}
 use Rattle.formula.specs.Formula.{formulaOf}
 use Rattle.formula.specs.Count.{variableCount, clauseCount, literalCount}
 use Rattle.formula_clauses.specs.declared.store.Stored.{Stored}
 use Rattle.formula_clauses.specs.declared.store.StoredBlock.{StoredBlock}
-use Rattle.formula_clauses.specs.Block.{clausesOf, blockFormula}
+use Rattle.formula_clauses.specs.declared.Block.{Block}
+use Rattle.formula_clauses.specs.Block.{blockClauses, Fits, blockFormula}
 pub mod Laws
 pub mod Promise
 
@@ -30,7 +32,7 @@ storedFormula q = formulaOf q
 abbrev pub storedVariables : Request → ℕ
 storedVariables q = variableCount q
 
--- "7 if the literal slice is shorter than T; 8 if the pair slice is shorter than 2C", after 2 to 5
+-- "7 if the literal slice is shorter than T; 8 if the pair slice is shorter than 2C", after the refusals of the request
 unfoldable pub roomRefusal : ℕ → ℕ → ℕ → ℕ → ℕ → ℕ
 roomRefusal x T C literals pairs = cond (eqb x 0) (cond (ltb literals T) 7 (cond (ltb pairs (2 * C)) 8 0)) x
 
@@ -60,14 +62,18 @@ pub record Roomy (q : Request) (literals pairs : ℕ) : Type 0 where
   pub literals-long : literalCount q ≤ literals
   pub pairs-long : 2 * clauseCount q ≤ pairs
 
--- the same for one of its blocks, from a clause and an entry on
-pub record BlockRoom (q : Request) (b first from literals pairs : ℕ) : Type 0 where
-  pub good : Good q
-  pub there : b ≤ 2 ^ (q .n)
-  pub small : from + length (flatten (clausesOf q b)) < 4294967296
-  pub few : first + length (clausesOf q b) < 4294967296
-  pub literals-long : from + length (flatten (clausesOf q b)) ≤ literals
-  pub pairs-long : 2 * (first + length (clausesOf q b)) ≤ pairs
+-- the same for a block, from a clause and an entry on
+pub record BlockRoom (n r m : ℕ) (b : Block) (first from literals pairs : ℕ) : Type 0 where
+  pub n-low : 1 ≤ n
+  pub n-high : n ≤ 8
+  pub r-high : r ≤ 15
+  pub m-high : m ≤ 15
+  pub fits : Fits n b
+  pub low : (j : ℕ) → j < length (blockClauses n r m b) → Low (getD (blockClauses n r m b) j [])
+  pub small : from + length (flatten (blockClauses n r m b)) < 4294967296
+  pub few : first + length (blockClauses n r m b) < 4294967296
+  pub literals-long : from + length (flatten (blockClauses n r m b)) ≤ literals
+  pub pairs-long : 2 * (first + length (blockClauses n r m b)) ≤ pairs
 
 -- storing a block: the same of its clauses
 abbrev pub blockRefusal : Request → ℕ → ℕ → ℕ → ℕ

@@ -13,9 +13,11 @@ pub mod store;
 mod values;
 pub mod variables;
 
-// A block of clauses: groups 1 and 2, or those of an on row or an off row, with the number of variables before the row and the row.
+// A block of clauses: groups 1 and 2; those of an on row or an off row, with the number of variables before the row and the row; or
+// those of a free row, which has none.
 pub enum Block {
     Network,
     On(u32, u32),
     Off(u32, u32),
+    Free,
 }

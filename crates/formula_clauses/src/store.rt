@@ -2,8 +2,10 @@
 //
 // The store is two lent slices: the literals of all clauses, one clause after the other, as signed numbers, and for each clause a
 // pair of offset and length in entries. What stands past T literals and 2C numbers stays. A refusal writes nothing.
+use crate::Block;
 use crate::blocks;
 use crate::count;
+use crate::variables;
 use cnf::Literal;
 use formula::Clause;
 use request::Request;
@@ -18,7 +20,7 @@ ghost use Rattle.formula.specs.Clause.{run, Low, literalsOf};
 ghost use Rattle.prelude.specs.Blocks.{flatten, pairsFrom};
 ghost use Rattle.formula.specs.Formula.{formulaOf};
 ghost use Rattle.formula.specs.Count.{variablesMost};
-ghost use Rattle.formula_clauses.specs.Block.{clausesOf};
+ghost use Rattle.formula_clauses.specs.Block.{blockClauses};
 ghost use Rattle.formula_clauses.specs.Store.{signs, storeRefusal, storeSizes, storedLiterals, storedPairs, Roomy, BlockRoom, blockSizes, blockLiteralsIn, blockPairsIn};
 
 // The refusal of storing a request's clauses, 0 where there is none; V, C and T, 0 where there is one.
@@ -130,26 +132,24 @@ pub fn store_sizes(q: Request, literals: usize, pairs: usize) -> Stored
     }
 }
 
-// Stores the clauses of block b of a good request, the first as clause `first` with its literals from the entry `from` on; the place
-// after the literals.
+// Stores the clauses of a block, count of them, the first as clause `first` with its literals from the entry `from` on; the place after
+// the literals.
 fn fill_block(
-    q: Request,
-    b: u32,
+    n: u8,
+    r: u8,
+    m: u8,
+    block: Block,
+    count: u32,
     first: u32,
     from: usize,
     literals: &mut [i32],
     pairs: &mut [u32],
 ) -> usize
-    requires { ⌜ BlockRoom q b first from (length (now literals)) (length (now pairs)) ⌝ }
-    ensures place { λ k. ⌜ k ≡ from + length (flatten (clausesOf q b)) ⌝ }
-    ensures literals { λ _. ⌜ now (literals .exit) ≡ written (now (literals .entry)) from (signs (flatten (clausesOf q b))) ⌝ }
-    ensures pairs { λ _. ⌜ now (pairs .exit) ≡ written (now (pairs .entry)) (2 * first) (pairsFrom from (clausesOf q b)) ⌝ }
+    requires { ⌜ (count ≡ length (blockClauses n r m block)) × BlockRoom n r m block first from (length (now literals)) (length (now pairs)) ⌝ }
+    ensures place { λ k. ⌜ k ≡ from + length (flatten (blockClauses n r m block)) ⌝ }
+    ensures literals { λ _. ⌜ now (literals .exit) ≡ written (now (literals .entry)) from (signs (flatten (blockClauses n r m block))) ⌝ }
+    ensures pairs { λ _. ⌜ now (pairs .exit) ≡ written (now (pairs .entry)) (2 * first) (pairsFrom from (blockClauses n r m block)) ⌝ }
 {
-    let n = q.n;
-    let r = q.r;
-    let m = q.m;
-    let block = blocks::block_at(q, b);
-    let count = blocks::block_count(n, r, m, block);
     let mut j: u32 = 0;
     let mut at = from;
     while j < count {
@@ -172,10 +172,13 @@ fn fill(q: Request, literals: &mut [i32], pairs: &mut [u32])
     let mut b: u32 = 0;
     let mut first: u32 = 0;
     let mut at: usize = 0;
+    let mut before = variables::network_variables(q.n, q.r);
     while b <= rows {
-        at = fill_block(q, b, first, at, literals, pairs);
-        let block = blocks::block_at(q, b);
-        first += blocks::block_count(q.n, q.r, q.m, block);
+        let block = blocks::block_from(q, b, before);
+        let count = blocks::block_count(q.n, q.r, q.m, block);
+        before += blocks::block_variables(q.r, q.m, block);
+        at = fill_block(q.n, q.r, q.m, block, count, first, at, literals, pairs);
+        first += count;
         b += 1;
     }
 }
@@ -246,7 +249,8 @@ pub fn store_block(q: Request, b: u32, literals: &mut [i32], pairs: &mut [u32]) 
 {
     let size = block_sizes(q, b, literals.len(), pairs.len());
     if size.clauses != 0 {
-        fill_block(q, b, 0, 0, literals, pairs);
+        let block = blocks::block_at(q, b);
+        fill_block(q.n, q.r, q.m, block, size.clauses, 0, 0, literals, pairs);
     }
     size
 }

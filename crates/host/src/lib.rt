@@ -1,6 +1,6 @@
 // The entries that a host in C or C++ calls: numbers and slices in, a number out, 0 for "taken", "none", "does" or "least". A slice passes
-// as a pointer and a length, an array as a pointer. On a refusal what stands behind n, table, r, m, variables, clauses, literals and size
-// stays; count, number and network are always written.
+// as a pointer and a length, an array as a pointer. On a refusal what stands behind n, table, free, r, m, variables, clauses, literals and
+// size stays; count, number and network are always written.
 use crate::bytes::NetworkBytes;
 use dimacs::Answer;
 use lrat::Outcome;
@@ -28,25 +28,28 @@ ghost use Rattle.host.specs.Entries.{sizeNumbers, checkCode, checkDetail
 
 mod bytes;
 
-// Reads the line of a request: 0 and its four numbers, or the refusal.
+// Reads the line of a request: 0 and its five numbers, or the refusal.
 #[no_mangle]
 pub extern "C" fn nk_read_request(
     text: &[u8],
     n: &mut u8,
     table: &mut u16,
+    free: &mut u16,
     r: &mut u8,
     m: &mut u8,
 ) -> u32
     ensures refusal { λ x. ⌜ x ≡ requestNumber (now (text .entry)) ⌝ }
     ensures n { λ _. ⌜ now (n .exit) ≡ getD (requestValues (now (text .entry))) 0 (now (n .entry)) ⌝ }
     ensures table { λ _. ⌜ now (table .exit) ≡ getD (requestValues (now (text .entry))) 1 (now (table .entry)) ⌝ }
-    ensures r { λ _. ⌜ now (r .exit) ≡ getD (requestValues (now (text .entry))) 2 (now (r .entry)) ⌝ }
-    ensures m { λ _. ⌜ now (m .exit) ≡ getD (requestValues (now (text .entry))) 3 (now (m .entry)) ⌝ }
+    ensures free { λ _. ⌜ now (free .exit) ≡ getD (requestValues (now (text .entry))) 2 (now (free .entry)) ⌝ }
+    ensures r { λ _. ⌜ now (r .exit) ≡ getD (requestValues (now (text .entry))) 3 (now (r .entry)) ⌝ }
+    ensures m { λ _. ⌜ now (m .exit) ≡ getD (requestValues (now (text .entry))) 4 (now (m .entry)) ⌝ }
 {
     match request_read::read_request(text) {
         Reading::Taken(q) => {
             *n = q.n;
             *table = q.table;
+            *free = q.free;
             *r = q.r;
             *m = q.m;
             0
@@ -60,18 +63,25 @@ pub extern "C" fn nk_read_request(
 pub extern "C" fn nk_sizes(
     n: u8,
     table: u16,
+    free: u16,
     r: u8,
     m: u8,
     variables: &mut u32,
     clauses: &mut u32,
     literals: &mut u32,
 ) -> u32
-    ensures refusal { λ x. ⌜ x ≡ refusalOf (asked n table r m) ⌝ }
-    ensures variables { λ _. ⌜ now (variables .exit) ≡ getD (sizeNumbers (asked n table r m)) 0 (now (variables .entry)) ⌝ }
-    ensures clauses { λ _. ⌜ now (clauses .exit) ≡ getD (sizeNumbers (asked n table r m)) 1 (now (clauses .entry)) ⌝ }
-    ensures literals { λ _. ⌜ now (literals .exit) ≡ getD (sizeNumbers (asked n table r m)) 2 (now (literals .entry)) ⌝ }
+    ensures refusal { λ x. ⌜ x ≡ refusalOf (asked n table free r m) ⌝ }
+    ensures variables { λ _. ⌜ now (variables .exit) ≡ getD (sizeNumbers (asked n table free r m)) 0 (now (variables .entry)) ⌝ }
+    ensures clauses { λ _. ⌜ now (clauses .exit) ≡ getD (sizeNumbers (asked n table free r m)) 1 (now (clauses .entry)) ⌝ }
+    ensures literals { λ _. ⌜ now (literals .exit) ≡ getD (sizeNumbers (asked n table free r m)) 2 (now (literals .entry)) ⌝ }
 {
-    let sizes = formula_clauses::count::count(Request { n, table, r, m });
+    let sizes = formula_clauses::count::count(Request {
+        n,
+        table,
+        free,
+        r,
+        m,
+    });
     if sizes.refusal != 0 {
         return sizes.refusal as u32;
     }
@@ -87,17 +97,27 @@ pub extern "C" fn nk_sizes(
 pub extern "C" fn nk_check_network(
     n: u8,
     table: u16,
+    free: u16,
     r: u8,
     m: u8,
     network: &NetworkBytes,
     number: &mut u32,
 ) -> u32
-    ensures answer { λ x. ⌜ x ≡ checkCode (checkedNumber (asked n table r m) (networkOf (now (network .entry)))) (checkedValues (asked n table r m) (networkOf (now (network .entry)))) ⌝ }
-    ensures number { λ _. ⌜ now (number .exit) ≡ checkDetail (checkedNumber (asked n table r m) (networkOf (now (network .entry)))) (checkedValues (asked n table r m) (networkOf (now (network .entry)))) ⌝ }
-    ensures does { λ x. ⌜ (x ≡ 0 → Does (asked n table r m) (listed r (networkOf (now (network .entry))))) ⌝ }
+    ensures answer { λ x. ⌜ x ≡ checkCode (checkedNumber (asked n table free r m) (networkOf (now (network .entry)))) (checkedValues (asked n table free r m) (networkOf (now (network .entry)))) ⌝ }
+    ensures number { λ _. ⌜ now (number .exit) ≡ checkDetail (checkedNumber (asked n table free r m) (networkOf (now (network .entry)))) (checkedValues (asked n table free r m) (networkOf (now (network .entry)))) ⌝ }
+    ensures does { λ x. ⌜ (x ≡ 0 → Does (asked n table free r m) (listed r (networkOf (now (network .entry))))) ⌝ }
 {
     let w = bytes::network_of(*network);
-    match network_check::check_network(Request { n, table, r, m }, w) {
+    match network_check::check_network(
+        Request {
+            n,
+            table,
+            free,
+            r,
+            m,
+        },
+        w,
+    ) {
         Checked::Does => {
             *number = 0;
             0
@@ -115,11 +135,17 @@ pub extern "C" fn nk_check_network(
 
 // The size of a request's clause file.
 #[no_mangle]
-pub extern "C" fn nk_file_size(n: u8, table: u16, r: u8, m: u8, size: &mut u64) -> u32
-    ensures refusal { λ x. ⌜ x ≡ refusalOf (asked n table r m) ⌝ }
-    ensures size { λ _. ⌜ now (size .exit) ≡ getD (sizeValues (asked n table r m)) 0 (now (size .entry)) ⌝ }
+pub extern "C" fn nk_file_size(n: u8, table: u16, free: u16, r: u8, m: u8, size: &mut u64) -> u32
+    ensures refusal { λ x. ⌜ x ≡ refusalOf (asked n table free r m) ⌝ }
+    ensures size { λ _. ⌜ now (size .exit) ≡ getD (sizeValues (asked n table free r m)) 0 (now (size .entry)) ⌝ }
 {
-    match dimacs::size::file_size(Request { n, table, r, m }) {
+    match dimacs::size::file_size(Request {
+        n,
+        table,
+        free,
+        r,
+        m,
+    }) {
         Answer::Bytes(k) => {
             *size = k as u64;
             0
@@ -133,17 +159,27 @@ pub extern "C" fn nk_file_size(n: u8, table: u16, r: u8, m: u8, size: &mut u64) 
 pub extern "C" fn nk_write_file(
     n: u8,
     table: u16,
+    free: u16,
     r: u8,
     m: u8,
     buffer: &mut [u8],
     size: &mut u64,
 ) -> u32
-    ensures refusal { λ x. ⌜ x ≡ writeNumber (asked n table r m) (length (now (buffer .entry))) ⌝ }
-    ensures bytes { λ _. ⌜ now (buffer .exit) ≡ fileWritten (asked n table r m) (now (buffer .entry)) ⌝ }
-    ensures size { λ _. ⌜ now (size .exit) ≡ getD (writeValues (asked n table r m) (length (now (buffer .entry)))) 0 (now (size .entry)) ⌝ }
-    ensures meaning { λ x. ⌜ (x ≡ 0 → FileMeans (asked n table r m)) ⌝ }
+    ensures refusal { λ x. ⌜ x ≡ writeNumber (asked n table free r m) (length (now (buffer .entry))) ⌝ }
+    ensures bytes { λ _. ⌜ now (buffer .exit) ≡ fileWritten (asked n table free r m) (now (buffer .entry)) ⌝ }
+    ensures size { λ _. ⌜ now (size .exit) ≡ getD (writeValues (asked n table free r m) (length (now (buffer .entry)))) 0 (now (size .entry)) ⌝ }
+    ensures meaning { λ x. ⌜ (x ≡ 0 → FileMeans (asked n table free r m)) ⌝ }
 {
-    match dimacs::write::write_file(Request { n, table, r, m }, buffer) {
+    match dimacs::write::write_file(
+        Request {
+            n,
+            table,
+            free,
+            r,
+            m,
+        },
+        buffer,
+    ) {
         Answer::Bytes(count) => {
             *size = count as u64;
             0
@@ -154,10 +190,19 @@ pub extern "C" fn nk_write_file(
 
 // Reads an answer, and says whether it is taken.
 #[no_mangle]
-pub extern "C" fn nk_test_answer(n: u8, table: u16, r: u8, m: u8, text: &[u8]) -> u32
-    ensures { λ x. ⌜ x ≡ readingOf (asked n table r m) (now (text .entry)) .refusal ⌝ }
+pub extern "C" fn nk_test_answer(n: u8, table: u16, free: u16, r: u8, m: u8, text: &[u8]) -> u32
+    ensures { λ x. ⌜ x ≡ readingOf (asked n table free r m) (now (text .entry)) .refusal ⌝ }
 {
-    let read = answer_read::read::read_answer(Request { n, table, r, m }, text);
+    let read = answer_read::read::read_answer(
+        Request {
+            n,
+            table,
+            free,
+            r,
+            m,
+        },
+        text,
+    );
     read.refusal as u32
 }
 
@@ -167,6 +212,7 @@ pub extern "C" fn nk_test_answer(n: u8, table: u16, r: u8, m: u8, text: &[u8]) -
 pub extern "C" fn nk_check_refutation(
     n: u8,
     table: u16,
+    free: u16,
     r: u8,
     m: u8,
     text: &[u8],
@@ -176,12 +222,18 @@ pub extern "C" fn nk_check_refutation(
     values: &mut [u8],
     count: &mut u32,
 ) -> u32
-    ensures checks { λ x. ⌜ Checks (asked n table r m) (now (text .entry)) (lent (now (literals .entry)) (now (pairs .entry)) (now (added .entry)) (now (values .entry))) x (now (count .exit)) (lent (now (literals .exit)) (now (pairs .exit)) (now (added .exit)) (now (values .exit))) ⌝ }
-    ensures sound { λ x. ⌜ (x ≡ 0 → Satisfiable (formulaOf (asked n table r m)) → ⊥) ⌝ }
-    ensures more { λ x. ⌜ (x ≡ 0 → MoreThan (asked n table r m)) ⌝ }
+    ensures checks { λ x. ⌜ Checks (asked n table free r m) (now (text .entry)) (lent (now (literals .entry)) (now (pairs .entry)) (now (added .entry)) (now (values .entry))) x (now (count .exit)) (lent (now (literals .exit)) (now (pairs .exit)) (now (added .exit)) (now (values .exit))) ⌝ }
+    ensures sound { λ x. ⌜ (x ≡ 0 → Satisfiable (formulaOf (asked n table free r m)) → ⊥) ⌝ }
+    ensures more { λ x. ⌜ (x ≡ 0 → MoreThan (asked n table free r m)) ⌝ }
 {
     let checked = lrat_check::check::check(
-        Request { n, table, r, m },
+        Request {
+            n,
+            table,
+            free,
+            r,
+            m,
+        },
         text,
         literals,
         pairs,
@@ -226,6 +278,7 @@ fn verdict_detail(k: u8, verdict: Verdict) -> u32
 pub extern "C" fn nk_settle(
     n: u8,
     table: u16,
+    free: u16,
     k: u8,
     m: u8,
     answer: &[u8],
@@ -237,11 +290,17 @@ pub extern "C" fn nk_settle(
     network: &mut NetworkBytes,
     number: &mut u32,
 ) -> u32
-    ensures settles { λ x. ⌜ Settles (asked n table k m) (now (answer .entry)) (now (refutation .entry)) (lent (now (literals .entry)) (now (pairs .entry)) (now (added .entry)) (now (values .entry))) x (now (number .exit)) (now (network .exit)) (lent (now (literals .exit)) (now (pairs .exit)) (now (added .exit)) (now (values .exit))) ⌝ }
-    ensures least { λ x. ⌜ (x ≡ 0 → LeastFor (asked n table k m) (networkOf (now (network .exit)))) ⌝ }
+    ensures settles { λ x. ⌜ Settles (asked n table free k m) (now (answer .entry)) (now (refutation .entry)) (lent (now (literals .entry)) (now (pairs .entry)) (now (added .entry)) (now (values .entry))) x (now (number .exit)) (now (network .exit)) (lent (now (literals .exit)) (now (pairs .exit)) (now (added .exit)) (now (values .exit))) ⌝ }
+    ensures least { λ x. ⌜ (x ≡ 0 → LeastFor (asked n table free k m) (networkOf (now (network .exit)))) ⌝ }
 {
     let settled = settle::settle(
-        Request { n, table, r: k, m },
+        Request {
+            n,
+            table,
+            free,
+            r: k,
+            m,
+        },
         answer,
         refutation,
         literals,

@@ -27,7 +27,7 @@ pub record Lent : Type 0 where
 abbrev pub lent : List ℤ → List ℕ → List ℕ → List ℕ → Lent
 lent literals pairs added values = record { literals = literals; pairs = pairs; added = added; values = values }
 
--- "7, 8; 14 if the byte slice of values is shorter than V+1; 15 for text above 16,777,215 bytes", after 2 to 5; 0 if none of these
+-- "7, 8; 14 if the byte slice of values is shorter than V+1; 15 for text above 16,777,215 bytes", after the refusals of the request; 0 if none of these
 unfoldable pub refusalBefore : Request → ℕ → Lent → ℕ
 refusalBefore q size s =
     cond (eqb (storeRefusal q (length (s .literals)) (length (s .pairs))) 0)

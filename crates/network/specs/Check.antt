@@ -7,6 +7,8 @@ use lib.ListN.{getD}
 use Rattle.prelude.specs.Lists.{anyFrom, allFrom, firstOf}
 use Rattle.request.specs.Numbers.{refusalOf}
 use Rattle.rows.specs.Rows.{Row, rowsOf}
+use Rattle.rows.specs.declared.Kind.{Kind}
+use Rattle.rows.specs.declared.Kind.the-variants.{On, Off, Free}
 use Rattle.request.specs.declared.Request.{Request}
 use Rattle.network.specs.Networks.{terminals, Net, source, sink, switchOf, other, closedOn, labelAt}
 use Rattle.network.specs.Value.{listed}
@@ -74,13 +76,14 @@ module _ (shut : ℕ → Bool) (label : ℕ → ℕ) where
 unfoldable pub apart : ℕ → (ℕ → Bool) → (ℕ → ℕ) → Bool
 apart r shut label = not (eqb (part shut label r source) (part shut label r (sink r)))
 
--- a row is right: an on row by search from the sink, an off row by merging
-abbrev pub rightIf : Bool → ℕ → ℕ → (ℕ → Bool) → (ℕ → ℕ) → Bool
-rightIf true r m shut label = near r shut label m source
-rightIf false r m shut label = apart r shut label
+-- a row is right: an on row by search from the sink, an off row by merging, a free row in any case
+abbrev pub rightIf : Kind → ℕ → ℕ → (ℕ → Bool) → (ℕ → ℕ) → Bool
+rightIf On r m shut label = near r shut label m source
+rightIf Off r m shut label = apart r shut label
+rightIf Free r m shut label = true
 
 abbrev pub rowRight : ℕ → ℕ → Net → Row → Bool
-rowRight r m w row = rightIf (row .on) r m (closedOn row w) (labelAt w)
+rowRight r m w row = rightIf (row .kind) r m (closedOn row w) (labelAt w)
 
 -- the form: every literal below 2n, every label the lowest terminal of its net
 unfoldable pub literalsLow : ℕ → ℕ → (ℕ → ℕ) → Bool
@@ -96,13 +99,13 @@ fitting q w =
 
 -- the first row that is wrong, or the number of rows
 unfoldable pub firstWrong : Request → Network → ℕ
-firstWrong q w = firstOf (λ row. not (rowRight (q .r) (q .m) (listed (q .r) w) row)) (rowsOf (q .n) (q .table))
+firstWrong q w = firstOf (λ row. not (rowRight (q .r) (q .m) (listed (q .r) w) row)) (rowsOf q)
 
 -- "Otherwise \"does\", or the lowest wrong row"
 unfoldable pub rowsAnswer : Request → Network → Checked
 rowsAnswer q w = cond (ltb (firstWrong q w) (2 ^ (q .n))) (Wrong (firstWrong q w)) Does
 
--- checking a network in document 01's numbers: 2 to 5, then 13; 0 where neither applies
+-- checking a network in the documents' numbers: those of the request, then 13; 0 where neither applies
 unfoldable pub checkedNumber : Request → Network → ℕ
 checkedNumber q w = cond (eqb (refusalOf q) 0) (cond (fitting q w) 0 13) (refusalOf q)
 

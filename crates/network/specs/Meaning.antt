@@ -21,8 +21,8 @@ pub record Accepted (q : Request) (w : Network) : Type 0 where
 -- row k is wrong, and every lower row is right
 pub record LowestWrong (q : Request) (w : Network) (k : ℕ) : Type 0 where
   pub row : k < 2 ^ (q .n)
-  pub wrong : Done (q .r) (q .m) (listed (q .r) w) (rowAt (q .n) (q .table) k) → ⊥
-  pub lower : (j : ℕ) → j < k → Done (q .r) (q .m) (listed (q .r) w) (rowAt (q .n) (q .table) j)
+  pub wrong : Done (q .r) (q .m) (listed (q .r) w) (rowAt q k) → ⊥
+  pub lower : (j : ℕ) → j < k → Done (q .r) (q .m) (listed (q .r) w) (rowAt q j)
 
 -- "does" exactly when the network does the job; a row k exactly when k is the lowest wrong row; a refusal exactly when the
 -- request, the number of switches or the form is not accepted

@@ -1,12 +1,14 @@
 -- Networks of any number of switches, walks, and doing the job (document 01, "Networks"). Assumes nothing.
 use mathlib.Core.Path.{_≡_}
-use mathlib.Core.Bool.{Bool, true, false}
+use mathlib.Core.Bool.{Bool}
 use mathlib.Core.List.{List, [], _∷_}
 use Prim.Native.Nat.{ℕ, _+_, _-_, _*_, _/_, _≤_, _<_}
 use lib.Dec.{T}
 use lib.ListN.{length, getD}
 use Rattle.prelude.specs.Lists.{Each}
 use Rattle.rows.specs.Rows.{Row, rowsOf}
+use Rattle.rows.specs.declared.Kind.{Kind}
+use Rattle.rows.specs.declared.Kind.the-variants.{On, Off, Free}
 use Rattle.request.specs.declared.Request.{Request}
 pub mod Laws
 
@@ -74,19 +76,21 @@ module _ (r : ℕ) (shut : ℕ → Bool) (label : ℕ → ℕ) where
   Walk a (e ∷ es) b = (label a ≡ label e) × Enters e × Walk (other e) es b
 
 -- "on each on row a walk from the source's net to the sink's net uses at most M closed switches, and on each off row no walk of
--- closed switches joins them"
-abbrev pub DoneIf : Bool → ℕ → ℕ → (ℕ → Bool) → (ℕ → ℕ) → Type 0
-DoneIf true r m shut label = (es : List ℕ) × (length es ≤ m) × Walk r shut label source es (sink r)
-DoneIf false r m shut label = (es : List ℕ) → Walk r shut label source es (sink r) → ⊥
+-- closed switches joins them"; on a free row "a network may conduct there or not" (document 02, U1)
+abbrev pub DoneIf : Kind → ℕ → ℕ → (ℕ → Bool) → (ℕ → ℕ) → Type 0
+DoneIf On r m shut label = (es : List ℕ) × (length es ≤ m) × Walk r shut label source es (sink r)
+DoneIf Off r m shut label = (es : List ℕ) → Walk r shut label source es (sink r) → ⊥
+DoneIf Free r m shut label = Unit {0}
 
 -- a network of r switches does the job of one row
 abbrev pub Done : ℕ → ℕ → Net → Row → Type 0
-Done r m w row = DoneIf (row .on) r m (closedOn row w) (labelAt w)
+Done r m w row = DoneIf (row .kind) r m (closedOn row w) (labelAt w)
 
 -- and of each row of a list
 abbrev pub DoesAll : ℕ → ℕ → Net → List Row → Type 0
 DoesAll r m w rows = Each (Done r m w) rows
 
--- a network of any number of switches does a request's job: "the request's n, table and M stay"
+-- a network of any number of switches does a request's job: "the request's n, table and M stay", and "A network does the job when its
+-- on and off rows are right"
 abbrev pub Does : Request → Net → Type 0
-Does q w = DoesAll (switches w) (q .m) w (rowsOf (q .n) (q .table))
+Does q w = DoesAll (switches w) (q .m) w (rowsOf q)

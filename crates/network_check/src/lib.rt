@@ -1,8 +1,8 @@
-// Checking a network against a request: 2 to 5 for the request, 13 for the form, then the rows from the lowest.
+// Checking a network against a request: the refusals of the request, 13 for the form, then the rows from the lowest.
 //
 // A row's closed switches are found once. On an on row the terminals within t switches of the sink are found for t = 0 to M; on
 // an off row the nets at the two ends of each closed switch are merged, one switch after the other, and the source and the sink
-// must stay apart. Merging needs no bound on the length of a walk.
+// must stay apart. Merging needs no bound on the length of a walk. A free row is right in any case.
 use network::Checked;
 use network::LITERALS;
 use network::Labels;
@@ -10,6 +10,7 @@ use network::Literals;
 use network::Network;
 use network::TERMINALS;
 use request::Request;
+use rows::Kind;
 ghost use mathlib.Core.Path.{_≡_};
 ghost use mathlib.Core.Bool.{Bool, true, false};
 ghost use Prim.Native.Nat.{ℕ, _+_, _*_, _^_, _≤_, _<_};
@@ -177,15 +178,16 @@ fn labels_lowest(r: u8, labels: Labels) -> bool
 // Whether row k is right.
 fn row_right(q: Request, w: Network, k: u8) -> bool
     requires { ⌜ Good q × (fitting q w ≡ true) × (k < 2 ^ (q .n)) ⌝ }
-    ensures { λ x. ⌜ x ≡ rowRight (q .r) (q .m) (listed (q .r) w) (rowAt (q .n) (q .table) k) ⌝ }
+    ensures { λ x. ⌜ x ≡ rowRight (q .r) (q .m) (listed (q .r) w) (rowAt q k) ⌝ }
 {
     let literals = w.literals;
     let labels = w.labels;
     let shut = closed_on(q.n, k, q.r, literals);
-    if rows::row_on(q.table, k) {
-        return near_source(q.r, q.m, shut, labels);
+    match rows::row_kind(q, k) {
+        Kind::On => near_source(q.r, q.m, shut, labels),
+        Kind::Off => kept_apart(q.r, shut, labels),
+        Kind::Free => true,
     }
-    kept_apart(q.r, shut, labels)
 }
 
 // The rows of a network that has the form, from the lowest.

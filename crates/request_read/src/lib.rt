@@ -1,5 +1,6 @@
 // Reading a request from bytes of any content and length. The line's form is tested whole before any of its numbers: 1 unless
-// it is four non-empty runs of digits with one space between and a newline last. Then n, the table, r and M, in this order.
+// it is four non-empty runs of digits, the second of digits and "-", with one space between and a newline last. Then n, the table,
+// r and M, in this order.
 use request::INPUTS;
 use request::Reading;
 use request::Request;
@@ -9,18 +10,31 @@ ghost use mathlib.Core.Path.{_≡_};
 ghost use Prim.Native.Nat.{_-_, _≤_, _<_};
 ghost use lib.ListN.{length};
 ghost use Rattle.request.specs.Numbers.{inputsMost, rowsMost};
-ghost use Rattle.request.specs.Line.{numberOf, valuesOf, runEnd, endedBy, single, isTable, tableAt, requestNumber, requestValues, requestOf, numbersOf, Digits, Bits, Ends};
+ghost use Rattle.request.specs.Line.{numberOf, valuesOf, digit, fieldCharacter, runEnd, endedBy, single, rowCharacter, isTable, marked, requestNumber, requestValues, requestOf, numbersOf, Bytes, Ends};
 
-// The end of the run of digits that starts at from.
-fn run_end(text: &[u8], from: usize) -> usize
-    ensures { λ e. ⌜ e ≡ runEnd (now (text .entry)) from ⌝ }
+// The field of a run: the table,
+const TABLE: bool = true;
+
+// or n, r or M.
+const NUMBER: bool = false;
+
+// Whether a byte may stand in a field: a digit, and in the table "-" too.
+fn in_field(b: u8, table: bool) -> bool
+    ensures { λ x. ⌜ x ≡ fieldCharacter table b ⌝ }
+{
+    if b == b'-' {
+        return table;
+    }
+    b'0' <= b && b <= b'9'
+}
+
+// The end of the run of such bytes that starts at from.
+fn run_end(text: &[u8], from: usize, table: bool) -> usize
+    ensures { λ e. ⌜ e ≡ runEnd (fieldCharacter table) (now (text .entry)) from ⌝ }
 {
     let mut i = from;
     while i < text.len() {
-        if text[i] < b'0' {
-            return i;
-        }
-        if b'9' < text[i] {
+        if !in_field(text[i], table) {
             return i;
         }
         i += 1;
@@ -43,7 +57,7 @@ fn ended_by(text: &[u8], from: usize, end: usize, b: u8) -> bool
 
 // The digit that a run of one character is; 10 for a longer run.
 fn one_digit(text: &[u8], from: usize, end: usize) -> u8
-    requires { ⌜ (from < end) × (end ≤ length (now text)) × Digits (now text) from end ⌝ }
+    requires { ⌜ (from < end) × (end ≤ length (now text)) × Bytes digit (now text) from end ⌝ }
     ensures { λ x. ⌜ x ≡ single (now (text .entry)) from end ⌝ }
 {
     if end - from != 1 {
@@ -52,7 +66,14 @@ fn one_digit(text: &[u8], from: usize, end: usize) -> u8
     text[from] - b'0'
 }
 
-// Whether a run is a table of 2^n characters 0 or 1.
+// Whether a byte is the character of a row: 0, 1, or "-" for a free row.
+fn is_row(b: u8) -> bool
+    ensures { λ x. ⌜ x ≡ rowCharacter b ⌝ }
+{
+    b == b'0' || (b == b'1' || b == b'-')
+}
+
+// Whether a run is a table of 2^n such characters.
 fn is_table(text: &[u8], from: usize, end: usize, n: u8) -> bool
     requires { ⌜ (from ≤ end) × (end ≤ length (now text)) × (n ≤ inputsMost) ⌝ }
     ensures { λ x. ⌜ x ≡ isTable (now (text .entry)) from end n ⌝ }
@@ -62,10 +83,7 @@ fn is_table(text: &[u8], from: usize, end: usize, n: u8) -> bool
     }
     let mut i = from;
     while i < end {
-        if text[i] < b'0' {
-            return false;
-        }
-        if b'1' < text[i] {
+        if !is_row(text[i]) {
             return false;
         }
         i += 1;
@@ -73,19 +91,21 @@ fn is_table(text: &[u8], from: usize, end: usize, n: u8) -> bool
     true
 }
 
-// The table that a run of characters 0 or 1 spells, row 0 first.
-fn table_value(text: &[u8], from: usize, end: usize) -> u16
-    requires { ⌜ (from ≤ end) × (end ≤ length (now text)) × (end - from ≤ rowsMost) × Bits (now text) from end ⌝ }
-    ensures { λ x. ⌜ x ≡ tableAt (now (text .entry)) from (end - from) ⌝ }
+// The rows of a run that have the character mark, row 0 the lowest bit.
+fn rows_marked(text: &[u8], from: usize, end: usize, mark: u8) -> u16
+    requires { ⌜ (from ≤ end) × (end ≤ length (now text)) × (end - from ≤ rowsMost) ⌝ }
+    ensures { λ x. ⌜ x ≡ marked mark (now (text .entry)) from (end - from) ⌝ }
 {
-    let mut value: u32 = 0;
+    let mut rows: u32 = 0;
     let mut i = end;
     while from < i {
         i -= 1;
-        let bit = (text[i] - b'0') as u32;
-        value = 2 * value + bit;
+        rows = 2 * rows;
+        if text[i] == mark {
+            rows += 1;
+        }
     }
-    value as u16
+    rows as u16
 }
 
 // The request whose four runs end at a, b, c and d.
@@ -111,8 +131,15 @@ fn numbers_at(text: &[u8], a: usize, b: usize, c: usize, d: usize) -> Reading
     if SERIES < m {
         return Reading::Refused(5);
     }
-    let table = table_value(text, a + 1, b);
-    Reading::Taken(Request { n, table, r, m })
+    let table = rows_marked(text, a + 1, b, b'1');
+    let free = rows_marked(text, a + 1, b, b'-');
+    Reading::Taken(Request {
+        n,
+        table,
+        free,
+        r,
+        m,
+    })
 }
 
 pub fn read_request(text: &[u8]) -> Reading
@@ -120,19 +147,19 @@ pub fn read_request(text: &[u8]) -> Reading
     ensures number { λ x. ⌜ numberOf x ≡ requestNumber (now (text .entry)) ⌝ }
     ensures values { λ x. ⌜ valuesOf x ≡ requestValues (now (text .entry)) ⌝ }
 {
-    let a = run_end(text, 0);
+    let a = run_end(text, 0, NUMBER);
     if !ended_by(text, 0, a, b' ') {
         return Reading::Refused(1);
     }
-    let b = run_end(text, a + 1);
+    let b = run_end(text, a + 1, TABLE);
     if !ended_by(text, a + 1, b, b' ') {
         return Reading::Refused(1);
     }
-    let c = run_end(text, b + 1);
+    let c = run_end(text, b + 1, NUMBER);
     if !ended_by(text, b + 1, c, b' ') {
         return Reading::Refused(1);
     }
-    let d = run_end(text, c + 1);
+    let d = run_end(text, c + 1, NUMBER);
     if !ended_by(text, c + 1, d, b'\n') {
         return Reading::Refused(1);
     }

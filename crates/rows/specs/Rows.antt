@@ -1,21 +1,37 @@
--- Rows: bit k of the table is row k; the value of each literal on a row. Assumes nothing.
+-- Rows: bit k of the table and of the free rows is row k; the value of each literal on a row. Assumes nothing.
 use mathlib.Core.Bool.{Bool, not, _&&_, cond}
 use mathlib.Core.List.{List, [], _∷_}
 use Prim.Native.Nat.{ℕ, zero, suc, _+_, _-_, _*_, _/_, _%_, _^_}
-use lib.Dec.{eqb, leb, ltb}
+use lib.Dec.{leb, ltb}
 use lib.ListN.{getD}
 use Rattle.prelude.specs.Lists.{tab}
 use Rattle.request.specs.Numbers.{inputsMost}
+use Rattle.request.specs.declared.Request.{Request}
+use Rattle.rows.specs.declared.Kind.{Kind}
+use Rattle.rows.specs.declared.Kind.the-variants.{On, Off, Free}
+-- bit k of a number, passed on
+pub use Rattle.request.specs.Numbers.{bit}
 pub mod Laws
 
--- bit k of a number, as a test
-abbrev pub bit : ℕ → ℕ → Bool
-bit x k = eqb (x / 2 ^ k % 2) 1
+-- the number of rows below row k whose bit is set
+unfoldable pub setBelow : ℕ → ℕ → ℕ
+setBelow rows zero = 0
+setBelow rows (suc k) = setBelow rows k + rows / 2 ^ k % 2
 
--- the number of on rows below row k
-unfoldable pub onBelow : ℕ → ℕ → ℕ
-onBelow table zero = 0
-onBelow table (suc k) = onBelow table k + table / 2 ^ k % 2
+-- what row k of a request is: on by the table, free by "a second 16-bit number, for free rows" (document 02, U1), else off
+unfoldable pub kindOf : Request → ℕ → Kind
+kindOf q k = cond (bit (q .table) k) On (cond (bit (q .free) k) Free Off)
+
+-- one of three by a row's kind
+abbrev pub byKind : {A : Type 0} → A → A → A → Kind → A
+byKind on off free On = on
+byKind on off free Off = off
+byKind on off free Free = free
+
+-- the number of off rows of a request below row k
+unfoldable pub offBelow : Request → ℕ → ℕ
+offBelow q zero = 0
+offBelow q (suc k) = offBelow q k + byKind 0 1 0 (kindOf q k)
 
 -- "A constant table holds the rows on which each input is 1, for n = 1 to 4, in hexadecimal"
 unfoldable pub inputTable : List (List ℕ)
@@ -38,15 +54,15 @@ literalOn n k v = cond (ltb v n) (bit k (n - 1 - v)) (not (bit k (2 * n - 1 - v)
 unfoldable pub literalValue : ℕ → ℕ → ℕ → Bool
 literalValue n k v = leb 1 n && (leb n inputsMost && (ltb k (2 ^ n) && (ltb v (2 * n) && literalOn n k v)))
 
--- what a row asks of a network: current or none, and the literals' values on it
+-- what a row asks of a network: current, none, or nothing; and the literals' values on it
 pub record Row : Type 0 where
-  pub on : Bool
+  pub kind : Kind
   pub value : ℕ → Bool
 
--- row k of a table of n inputs
-abbrev pub rowAt : ℕ → ℕ → ℕ → Row
-rowAt n table k = record { on = bit table k; value = literalOn n k }
+-- row k of a request
+abbrev pub rowAt : Request → ℕ → Row
+rowAt q k = record { kind = kindOf q k; value = literalOn (q .n) k }
 
--- the rows of a table of n inputs, rising
-unfoldable pub rowsOf : ℕ → ℕ → List Row
-rowsOf n table = tab 0 (2 ^ n) (rowAt n table)
+-- the rows of a request, rising; a free row is one of them, so that a row's place is its number
+unfoldable pub rowsOf : Request → List Row
+rowsOf q = tab 0 (2 ^ (q .n)) (rowAt q)

@@ -1,13 +1,21 @@
-// Rows: which are on, how many, and the value of a literal on one.
+// Rows: of what kind each is, how many are set in a number, and the value of a literal on one.
 use request::INPUTS;
+use request::Request;
 ghost use mathlib.Core.Path.{_≡_};
 ghost use mathlib.Core.Bool.{Bool};
 ghost use Prim.Native.Nat.{ℕ, _*_, _^_, _≤_, _<_};
 ghost use Rattle.request.specs.Numbers.{inputsMost, rowsMost};
-ghost use Rattle.rows.specs.Rows.{bit, onBelow, inputRows, literalOn, literalValue};
+ghost use Rattle.rows.specs.Rows.{bit, setBelow, kindOf, inputRows, literalOn, literalValue};
 
-// The most rows, as many as a table's number has bits.
+// The most rows, as many as the number of a table or of the free rows has bits.
 pub const ROWS: u32 = 1 << INPUTS;
+
+// What a row asks of a network: current, none, or nothing.
+pub enum Kind {
+    On,
+    Off,
+    Free,
+}
 
 // The rows on which each input is 1, for n = 1 to the most inputs.
 const INPUT_ROWS: [[u16; INPUTS as usize]; INPUTS as usize] = [
@@ -17,31 +25,44 @@ const INPUT_ROWS: [[u16; INPUTS as usize]; INPUTS as usize] = [
     [0xFF00, 0xF0F0, 0xCCCC, 0xAAAA],
 ];
 
-// Whether row k of a table is on.
-pub fn row_on(table: u16, k: u8) -> bool
-    ensures { λ x. ⌜ x ≡ bit table k ⌝ }
+// Whether a number has row k.
+fn has_row(rows: u16, k: u8) -> bool
+    ensures { λ x. ⌜ x ≡ bit rows k ⌝ }
 {
     if ROWS <= k as u32 {
         return false;
     }
-    (table >> k) % 2 == 1
+    (rows >> k) % 2 == 1
 }
 
-// The number of on rows.
-pub fn on_rows(table: u16) -> u32
-    ensures { λ x. ⌜ x ≡ onBelow table rowsMost ⌝ }
+// The kind of row k of a request. All that treats rows of different kinds differently asks this.
+pub fn row_kind(q: Request, k: u8) -> Kind
+    ensures { λ x. ⌜ x ≡ kindOf q k ⌝ }
 {
-    u16::count_ones(table)
+    if has_row(q.table, k) {
+        return Kind::On;
+    }
+    if has_row(q.free, k) {
+        return Kind::Free;
+    }
+    Kind::Off
 }
 
-// The number of on rows below row k.
-pub fn on_rows_below(table: u16, k: u8) -> u32
-    ensures { λ x. ⌜ x ≡ onBelow table k ⌝ }
+// How many rows a number has.
+pub fn rows_in(rows: u16) -> u32
+    ensures { λ x. ⌜ x ≡ setBelow rows rowsMost ⌝ }
+{
+    u16::count_ones(rows)
+}
+
+// How many of them are below row k.
+pub fn rows_below(rows: u16, k: u8) -> u32
+    ensures { λ x. ⌜ x ≡ setBelow rows k ⌝ }
 {
     if (k as u32) < ROWS {
-        return u16::count_ones(table % (1u16 << k));
+        return u16::count_ones(rows % (1u16 << k));
     }
-    on_rows(table)
+    rows_in(rows)
 }
 
 // The rows on which input v is 1.
@@ -58,9 +79,9 @@ fn literal_within(n: u8, k: u8, v: u8) -> bool
     ensures { λ x. ⌜ x ≡ literalOn n k v ⌝ }
 {
     if v < n {
-        return row_on(input_rows(n, v), k);
+        return has_row(input_rows(n, v), k);
     }
-    !row_on(input_rows(n, v - n), k)
+    !has_row(input_rows(n, v - n), k)
 }
 
 // The same, and false where there is no such literal or row.

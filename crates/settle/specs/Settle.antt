@@ -5,6 +5,7 @@ use mathlib.Core.List.{List, [], _∷_}
 use Prim.Native.Nat.{ℕ, _-_, _^_}
 use lib.Dec.{eqb, ltb}
 use Rattle.request.specs.declared.Request.{Request}
+use Rattle.request.specs.Numbers.{withSwitches}
 use Rattle.network.specs.declared.Network.{Network}
 use Rattle.network.specs.declared.Checked.{Checked}
 use Rattle.network.specs.declared.Checked.the-variants.{Does as does, Wrong, Refused as formRefused}
@@ -37,9 +38,9 @@ verdictValues k (Works x) = 1 ∷ k ∷ x ∷ []
 verdictValues k (Fails row) = 2 ∷ k ∷ row ∷ []
 verdictValues k (Refused x) = 3 ∷ []
 
--- the request that the refutation is for: r is k−1, "the request's n, table and M stay"
+-- the request that the refutation is for: r is k−1
 abbrev pub smaller : Request → Request
-smaller q = record { n = q .n; table = q .table; r = q .r - 1; m = q .m }
+smaller q = withSwitches q (q .r - 1)
 
 -- "\"works\" with the refutation's number; else \"least\""
 abbrev pub outcomeVerdict : Outcome → Verdict

@@ -58,6 +58,7 @@ fn one_fewer(q: Request) -> Request
     Request {
         n: q.n,
         table: q.table,
+        free: q.free,
         r: q.r - 1,
         m: q.m,
     }

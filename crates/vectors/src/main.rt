@@ -16,6 +16,7 @@ fn show_reading(text: &[u8]) {
             io::write_all(1, b"taken");
             number(q.n as u64);
             number(q.table as u64);
+            number(q.free as u64);
             number(q.r as u64);
             number(q.m as u64);
         }
@@ -27,9 +28,19 @@ fn show_reading(text: &[u8]) {
     io::write_all(1, b"\n");
 }
 
-fn show_test(n: u8, table: u16, r: u8, m: u8) {
+fn asked(n: u8, table: u16, free: u16, r: u8, m: u8) -> Request {
+    Request {
+        n,
+        table,
+        free,
+        r,
+        m,
+    }
+}
+
+fn show_test(n: u8, table: u16, free: u16, r: u8, m: u8) {
     io::write_all(1, b"test");
-    number(request::numbers::test_request(Request { n, table, r, m }) as u64);
+    number(request::numbers::test_request(asked(n, table, free, r, m)) as u64);
     io::write_all(1, b"\n");
 }
 
@@ -64,7 +75,7 @@ fn show_part(text: &[u8], pairs: &[u32], c: u32, a: u32, id: u32) {
     io::write_all(1, b".\n");
 }
 
-// Requests as text: document 01's, then one for each way in which the form or a number is refused.
+// Requests as text: document 01's, then one for each way in which the form or a number is refused, then free rows.
 fn requests() {
     show_reading(b"1 00 0 0\n");
     show_reading(b"2 0110 4 2\n");
@@ -80,7 +91,6 @@ fn requests() {
     show_reading(b" 1 01 1 1\n");
     show_reading(b"1  01 1 1\n");
     show_reading(b"1 01 1\n");
-    show_reading(b"1 0- 1 1\n");
     show_reading(b"1 01 1 1\r\n");
     show_reading(b"1 02 1 1\n");
     show_reading(b"2 01 1 1\n");
@@ -92,19 +102,37 @@ fn requests() {
     show_reading(
         b"1 01 1 000000000000000000000000000000000000000000000000000000000000000000000000\n",
     );
+    show_reading(b"1 0- 1 1\n");
+    show_reading(b"1 -- 0 0\n");
+    show_reading(b"4 1010001010------ 3 2\n");
+    show_reading(b"1 -2 1 1\n");
+    show_reading(b"1 0-- 1 1\n");
+    show_reading(b"9 -- 1 1\n");
+    show_reading(b"1 -- 8 8\n");
+    show_reading(b"1 01 - 1\n");
+    show_reading(b"1 01 1 -\n");
+    show_reading(b"- 01 1 1\n");
 }
 
-// Requests as numbers, at the bounds.
+// Requests as numbers, at the bounds; then with free rows.
 fn numbers() {
-    show_test(0, 0, 0, 0);
-    show_test(5, 0, 8, 8);
-    show_test(1, 3, 7, 7);
-    show_test(1, 4, 8, 8);
-    show_test(3, 255, 7, 7);
-    show_test(3, 256, 7, 7);
-    show_test(4, 65535, 8, 8);
-    show_test(4, 65535, 7, 8);
-    show_test(4, 65535, 7, 7);
+    show_test(0, 0, 0, 0, 0);
+    show_test(5, 0, 0, 8, 8);
+    show_test(1, 3, 0, 7, 7);
+    show_test(1, 4, 0, 8, 8);
+    show_test(3, 255, 0, 7, 7);
+    show_test(3, 256, 0, 7, 7);
+    show_test(4, 65535, 0, 8, 8);
+    show_test(4, 65535, 0, 7, 8);
+    show_test(4, 65535, 0, 7, 7);
+    show_test(4, 0, 65535, 7, 7);
+    show_test(1, 5, 1, 1, 1);
+    show_test(1, 0, 5, 1, 1);
+    show_test(1, 1, 1, 9, 1);
+    show_test(1, 1, 2, 9, 9);
+    show_test(2, 6, 9, 4, 8);
+    show_test(2, 6, 9, 4, 2);
+    show_test(5, 1, 1, 9, 9);
 }
 
 // Two inputs that differ: P9 and P10, then the same network with its parts changed.
@@ -116,78 +144,17 @@ fn exclusive() {
         literals: literals,
         labels: labels,
     };
-    show_check(
-        Request {
-            n: 2,
-            table: 6,
-            r: 4,
-            m: 2,
-        },
-        w,
-    );
-    show_check(
-        Request {
-            n: 2,
-            table: 6,
-            r: 4,
-            m: 1,
-        },
-        w,
-    );
-    show_check(
-        Request {
-            n: 2,
-            table: 14,
-            r: 4,
-            m: 2,
-        },
-        w,
-    );
-    show_check(
-        Request {
-            n: 2,
-            table: 4,
-            r: 4,
-            m: 2,
-        },
-        w,
-    );
-    show_check(
-        Request {
-            n: 2,
-            table: 6,
-            r: 3,
-            m: 2,
-        },
-        w,
-    );
-    show_check(
-        Request {
-            n: 0,
-            table: 6,
-            r: 9,
-            m: 2,
-        },
-        w,
-    );
-    show_check(
-        Request {
-            n: 1,
-            table: 3,
-            r: 4,
-            m: 2,
-        },
-        w,
-    );
+    show_check(asked(2, 6, 0, 4, 2), w);
+    show_check(asked(2, 6, 0, 4, 1), w);
+    show_check(asked(2, 14, 0, 4, 2), w);
+    show_check(asked(2, 4, 0, 4, 2), w);
+    show_check(asked(2, 6, 0, 3, 2), w);
+    show_check(asked(0, 6, 0, 9, 2), w);
+    show_check(asked(1, 3, 0, 4, 2), w);
     let mut above = labels;
     above[2] = 3;
     show_check(
-        Request {
-            n: 2,
-            table: 6,
-            r: 4,
-            m: 2,
-        },
+        asked(2, 6, 0, 4, 2),
         Network {
             r: 4,
             literals: literals,
@@ -197,18 +164,19 @@ fn exclusive() {
     let mut not_lowest = labels;
     not_lowest[9] = 8;
     show_check(
-        Request {
-            n: 2,
-            table: 6,
-            r: 4,
-            m: 2,
-        },
+        asked(2, 6, 0, 4, 2),
         Network {
             r: 4,
             literals: literals,
             labels: not_lowest,
         },
     );
+    // row 1 is free, so row 2 is the lowest wrong one; then rows 1 and 2; then row 3, which is on; then all rows, and M = 0
+    show_check(asked(2, 4, 2, 4, 1), w);
+    show_check(asked(2, 0, 6, 4, 1), w);
+    show_check(asked(2, 8, 7, 4, 2), w);
+    show_check(asked(2, 0, 15, 4, 0), w);
+    show_check(asked(2, 6, 2, 4, 2), w);
     show_same(w, w);
     show_same(
         w,
@@ -224,35 +192,14 @@ fn exclusive() {
 // No switches: P11, and a constant that is off; then a switch entered at its second end.
 fn small() {
     let joined = network::value::zero_network();
-    show_check(
-        Request {
-            n: 1,
-            table: 3,
-            r: 0,
-            m: 0,
-        },
-        joined,
-    );
-    show_check(
-        Request {
-            n: 1,
-            table: 0,
-            r: 0,
-            m: 0,
-        },
-        joined,
-    );
+    show_check(asked(1, 3, 0, 0, 0), joined);
+    show_check(asked(1, 0, 0, 0, 0), joined);
     let literals = [0u8; 7];
     let mut labels = [0u8; 16];
     labels[1] = 1;
     labels[3] = 1;
     show_check(
-        Request {
-            n: 1,
-            table: 2,
-            r: 1,
-            m: 1,
-        },
+        asked(1, 2, 0, 1, 1),
         Network {
             r: 1,
             literals: literals,
@@ -260,12 +207,7 @@ fn small() {
         },
     );
     show_check(
-        Request {
-            n: 1,
-            table: 2,
-            r: 1,
-            m: 0,
-        },
+        asked(1, 2, 0, 1, 0),
         Network {
             r: 1,
             literals: literals,

@@ -23,7 +23,7 @@ use Rattle.formula.specs.Formula.Range.{ClauseIn, range}
 use Rattle.formula.specs.Count.{onRowCount, onRowLiterals, variableCount}
 use Rattle.formula.specs.Pairs.{pairsBefore, triplesBefore}
 use Rattle.formula_clauses.specs.declared.Block.{Block}
-use Rattle.formula_clauses.specs.declared.Block.the-variants.{Network, On, Off}
+use Rattle.formula_clauses.specs.declared.Block.the-variants.{Network, On, Off, Free}
 use Rattle.formula_clauses.specs.declared.store.StoredBlock.{StoredBlock}
 use Rattle.formula_clauses.specs.Block.{blockCount, blockLiterals, blockOf, clausesOf, blocksBelow, blockFormula}
 use Rattle.formula_clauses.specs.Block.Laws.{block-length, block-literals, blocks-all, block-each, among}
@@ -60,6 +60,7 @@ module _ (n r m : ℕ) (n-high : n ≤ inputsMost) (r-high : r ≤ switchesMost)
   small-block Network = and-l (small n r m Network) _ small-at
   small-block (On B k) = and-l (small n r m (On 0 0)) _ (and-r (small n r m Network) _ small-at)
   small-block (Off B k) = and-r (small n r m (On 0 0)) (small n r m (Off 0 0)) (and-r (small n r m Network) _ small-at)
+  small-block Free = tt
 
   -- so it has at most so many clauses and literals
   block-few : (b : Block) → (blockCount n r m b ≤ clausesRoom) × (blockLiterals n r m b ≤ literalsRoom)

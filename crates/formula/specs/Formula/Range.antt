@@ -1,6 +1,6 @@
 -- Every variable of a request's clauses is from 1 to V, and V is small. Assumes nothing.
 use mathlib.Core.Path.{sym, subst}
-use mathlib.Core.Bool.{Bool, true, false, cond}
+use mathlib.Core.Bool.{Bool, cond}
 use mathlib.Core.List.{List, [], _∷_}
 use mathlib.Core.Logic.{⊎-elim, _≢_}
 use Prim.Native.Nat.{ℕ, _+_, _-_, _*_, _^_, _≤_, _<_}
@@ -14,7 +14,10 @@ use Rattle.prelude.specs.Blocks.{for}
 use Rattle.prelude.specs.Blocks.Laws.{each-blocks}
 use Rattle.cnf.specs.Cnf.{pos, neg, Clause}
 use Rattle.cnf.specs.declared.Literal.{Literal}
-use Rattle.rows.specs.Rows.{Row, onBelow, rowsOf}
+use Rattle.rows.specs.Rows.{Row, setBelow, byKind, offBelow, rowsOf}
+use Rattle.rows.specs.Rows.Laws.{on-off-most}
+use Rattle.rows.specs.declared.Kind.{Kind}
+use Rattle.rows.specs.declared.Kind.the-variants.{On, Off, Free}
 use Rattle.request.specs.Numbers.{Good}
 use Rattle.request.specs.Numbers.Laws.{rows-high}
 use Rattle.request.specs.declared.Request.{Request}
@@ -25,7 +28,7 @@ use Rattle.formula.specs.Formula.Laws.{joined-low, joined-high, pair-num
 use Rattle.formula.specs.Pairs.Laws.{pairs-grow}
 use Rattle.formula.specs.Formula.Rows.{variablesIn}
 use Rattle.formula.specs.Count.{variablesMost, split, variablesBefore, variableCount}
-use Rattle.formula.specs.Count.Laws.{on-most, weighted-most, variables-below}
+use Rattle.formula.specs.Count.Laws.{weighted-most, variables-below}
 
 -- a variable from 1 to top
 abbrev pub In : ℕ → ℕ → Type 0
@@ -202,22 +205,23 @@ module _ (n r m top : ℕ) (base : networkVariables n r ≤ top) where
   unfolding rowsFrom rowClauses rowVariables variablesIn
   rows-in B [] h = tt
   rows-in B (row ∷ rows) h =
-      each-join _ (rowClauses n r m B row) _ (one (row .on) (omega arith)) (rows-in (B + rowVariables r m row) rows (omega arith))
+      each-join _ (rowClauses n r m B row) _ (one (row .kind) (omega arith)) (rows-in (B + rowVariables r m row) rows (omega arith))
     where
-      one : (b : Bool) → B + cond b (m * (2 * r + 1)) (terminals r) ≤ top
-          → Each (ClauseIn top) (cond b (onRow n r m B (row .value)) (offRow n (terminals r) r B (row .value)))
-      one true h = on-in B (row .value) h
-      one false h = off-in B (row .value) h
+      one : (x : Kind) → B + byKind (m * (2 * r + 1)) (terminals r) 0 x ≤ top
+          → Each (ClauseIn top) (byKind (onRow n r m B (row .value)) (offRow n (terminals r) r B (row .value)) [] x)
+      one On h = on-in B (row .value) h
+      one Off h = off-in B (row .value) h
+      one Free h = tt
 
 -- every variable of a request's clauses is from 1 to V
 pub range : (q : Request) → Each (Each (λ l. (1 ≤ l .variable) × (l .variable ≤ variableCount q))) (formulaOf q)
 unfolding formulaOf formula rowsOf variableCount variablesBefore
 range q =
-    let e = variables-below (q .n) (q .table) (q .r) (q .m) (2 ^ (q .n)) in
+    let e = variables-below q (2 ^ (q .n)) in
     let N : ℕ = terminals (q .r) in
     each-join _ (transitivity N) _ (transitivity-in (q .n) (q .r) (q .m) (variableCount q) (omega arith))
     (each-join _ (choices (q .n) N (q .r)) _ (choices-in (q .n) (q .r) (q .m) (variableCount q) (omega arith))
-    (rows-in (q .n) (q .r) (q .m) (variableCount q) (omega arith) (P N + 2 * q .n * q .r) (rowsOf (q .n) (q .table)) (omega arith)))
+    (rows-in (q .n) (q .r) (q .m) (variableCount q) (omega arith) (P N + 2 * q .n * q .r) (rowsOf q) (omega arith)))
 
 -- V is no more than the most variables
 pub variables-most : (q : Request) → Good q → variableCount q ≤ variablesMost
@@ -226,8 +230,7 @@ variables-most q g =
     let p = pairs-most (terminals (q .r)) (omega (arith, g .r-high)) in
     let l = chosen-most (q .n) (q .r) (g .n-high) (g .r-high) in
     let most = rows-high (q .n) (g .n-high) in
-    let within = on-most (q .table) (2 ^ (q .n)) in
-    let on : ℕ = onBelow (q .table) (2 ^ (q .n)) in
+    let within = on-off-most q (2 ^ (q .n)) in
     let steps = steps-most (q .r) (q .m) (g .r-high) (g .m-high) in
-    let rows = weighted-most on (2 ^ (q .n) - on) _ (terminals (q .r)) _ (omega arith) steps (omega (arith, g .r-high)) in
+    let rows = weighted-most (setBelow (q .table) (2 ^ (q .n))) (offBelow q (2 ^ (q .n))) _ (terminals (q .r)) _ (omega arith) steps (omega (arith, g .r-high)) in
     omega arith

@@ -46,7 +46,7 @@ unfolding formulaOf formula
 in-nets q k h = List·getD-append (transitivity (terminals (q .r))) _ [] k h
 
 abbrev rowsOfRequest : Request → Formula
-rowsOfRequest q = rowsFrom (q .n) (q .r) (q .m) (networkVariables (q .n) (q .r)) (rowsOf (q .n) (q .table))
+rowsOfRequest q = rowsFrom (q .n) (q .r) (q .m) (networkVariables (q .n) (q .r)) (rowsOf q)
 
 pub in-choices : (q : Request) (k j : ℕ) → k ≡ length (transitivity (terminals (q .r))) + j → j < length (choices (q .n) (terminals (q .r)) (q .r))
     → getD (formulaOf q) k [] ≡ getD (choices (q .n) (terminals (q .r)) (q .r)) j []

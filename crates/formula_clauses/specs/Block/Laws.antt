@@ -1,10 +1,9 @@
 -- Laws of the blocks: how many clauses and literals they have, and that they are the request's clauses. Assumes nothing.
 use mathlib.Core.Path.{_≡_, refl, sym, ap, ap₂, _∙_, subst}
-use mathlib.Core.Bool.{Bool, true, false, cond}
 use mathlib.Core.List.{List, [], _∷_, _++_, append-assoc, append-nil}
 use mathlib.Core.Logic.{⊎-elim}
-use Prim.Native.Nat.{ℕ, zero, suc, _+_, _-_, _^_, _≤_, _<_}
-use native.Mathlib.Nat.{eq-or-lt-of-le, zero-add}
+use Prim.Native.Nat.{ℕ, zero, suc, _+_, _-_, _*_, _^_, _≤_, _<_}
+use native.Mathlib.Nat.{add-zero, eq-or-lt-of-le, zero-add}
 use native.Mathlib.Numerals.{add-one}
 use native.Mathlib.Omega.{arith}
 use lib.ListN.{length, getD, length-append, List·getD-append, List·getD-eq-default}
@@ -15,21 +14,25 @@ use Rattle.prelude.specs.Lists.Laws.{each-first, each-last}
 use Rattle.prelude.specs.Blocks.{flatten}
 use Rattle.prelude.specs.Blocks.Laws.{flatten-append}
 use Rattle.cnf.specs.Cnf.{Clause, Formula}
-use Rattle.rows.specs.Rows.{Row, bit, rowAt, rowsOf, literalOn}
+use Rattle.rows.specs.Rows.{Row, setBelow, kindOf, byKind, offBelow, rowAt, rowsOf, literalOn}
+use Rattle.rows.specs.Rows.Laws.{on-off-most}
+use Rattle.rows.specs.declared.Kind.{Kind}
+use Rattle.rows.specs.declared.Kind.the-variants.{On as on, Off as off, Free as free}
 use Rattle.request.specs.Numbers.{Good, refusalOf}
-use Rattle.request.specs.Numbers.Laws.{good-refusal, refusal-good}
+use Rattle.request.specs.Numbers.Laws.{good-refusal, refusal-good, rows-high}
 use Rattle.request.specs.declared.Request.{Request}
-use Rattle.formula.specs.Formula.{terminals, transitivity, choices, onRow, offRow, rowClauses, rowsFrom, formula, formulaOf, networkVariables}
+use Rattle.formula.specs.Formula.{terminals, P, transitivity, choices, onRow, offRow, rowClauses, rowsFrom, formula, formulaOf, networkVariables}
 use Rattle.formula.specs.Formula.OnRow.{on-row-length, on-row-literals}
 use Rattle.formula.specs.Formula.OffRow.{off-row-length, off-row-literals}
 use Rattle.formula.specs.Formula.Rows.{variablesIn, rows-append}
 use Rattle.formula.specs.Count.{onRowCount, offRowCount, networkCount, split, variablesBefore}
-use Rattle.formula.specs.Count.Laws.{rowsBelow, below-more, variables-below, rows-clauses, split-more, network-length, network-literals}
+use Rattle.formula.specs.Count.Laws.{weighted-most, rowsBelow, below-more, variables-below, rows-clauses, split-more, network-length, network-literals}
 use Rattle.formula.specs.Number.{clauseOf}
 use Rattle.formula.specs.Number.Laws.{clause-good}
 use Rattle.formula_clauses.specs.declared.Block.{Block}
-use Rattle.formula_clauses.specs.declared.Block.the-variants.{Network, On, Off}
-use Rattle.formula_clauses.specs.Block.{networkClause, blockClauses, blockCount, blockLiterals, blockOf, clausesOf, blocksBelow}
+use Rattle.formula_clauses.specs.declared.Block.the-variants.{Network, On, Off, Free}
+use Rattle.formula_clauses.specs.Bounds.{row-most, variables-few}
+use Rattle.formula_clauses.specs.Block.{networkClause, blockClauses, blockVariables, blockCount, blockLiterals, blockOf, clausesOf, blocksBelow}
 
 -- how many clauses
 pub block-length : (n r m : ℕ) (b : Block) → length (blockClauses n r m b) ≡ blockCount n r m b
@@ -37,14 +40,17 @@ block-length n r m Network =
     length-append (transitivity (terminals r)) (choices n (terminals r) r) ∙ network-length n r
 block-length n r m (On B k) = on-row-length n r m B k
 block-length n r m (Off B k) = off-row-length n (terminals r) r B k
+block-length n r m Free = refl
 
 -- how many literals
 pub block-literals : (n r m : ℕ) (b : Block) → length (flatten (blockClauses n r m b)) ≡ blockLiterals n r m b
+unfolding flatten
 block-literals n r m Network =
     ap length (flatten-append (transitivity (terminals r)) (choices n (terminals r) r))
     ∙ length-append (flatten (transitivity (terminals r))) (flatten (choices n (terminals r) r)) ∙ network-literals n r
 block-literals n r m (On B k) = on-row-literals n r m B k
 block-literals n r m (Off B k) = off-row-literals n (terminals r) r B k
+block-literals n r m Free = refl
 
 -- a request whose test answers 0 is good
 pub request-good : (q : Request) {x : ℕ} → x ≡ refusalOf q → (x ≡ 0) → Good q
@@ -70,7 +76,7 @@ pub block-first : (q : Request) (b : ℕ) → b ≡ 0 → Network ≡ blockOf q 
 block-first q b e = rw e
 
 pub block-row : (q : Request) (b : ℕ) → 0 < b
-    → blockOf q b ≡ cond (bit (q .table) (b - 1)) (On (variablesBefore q (b - 1)) (b - 1)) (Off (variablesBefore q (b - 1)) (b - 1))
+    → blockOf q b ≡ byKind (On (variablesBefore q (b - 1)) (b - 1)) (Off (variablesBefore q (b - 1)) (b - 1)) Free (kindOf q (b - 1))
 block-row q zero h = absurd (omega arith)
 block-row q (suc k) h = let e : suc k - 1 ≡ k = omega arith in rw e
 
@@ -79,30 +85,60 @@ module _ (q : Request) where
   base = networkVariables (q .n) (q .r)
 
   -- the block of a row has the row's clauses
-  row-block : (k : ℕ) → clausesOf q (suc k) ≡ rowClauses (q .n) (q .r) (q .m) (variablesBefore q k) (rowAt (q .n) (q .table) k)
+  row-block : (k : ℕ) → clausesOf q (suc k) ≡ rowClauses (q .n) (q .r) (q .m) (variablesBefore q k) (rowAt q k)
   unfolding rowClauses
-  row-block k = go (bit (q .table) k)
+  row-block k = go (kindOf q k)
     where
-      go : (t : Bool)
-          → blockClauses (q .n) (q .r) (q .m) (cond t (On (variablesBefore q k) k) (Off (variablesBefore q k) k))
-          ≡ cond t (onRow (q .n) (q .r) (q .m) (variablesBefore q k) (literalOn (q .n) k)) (offRow (q .n) (terminals (q .r)) (q .r) (variablesBefore q k) (literalOn (q .n) k))
-      go true = refl
-      go false = refl
+      go : (x : Kind)
+          → blockClauses (q .n) (q .r) (q .m) (byKind (On (variablesBefore q k) k) (Off (variablesBefore q k) k) Free x)
+          ≡ byKind (onRow (q .n) (q .r) (q .m) (variablesBefore q k) (literalOn (q .n) k)) (offRow (q .n) (terminals (q .r)) (q .r) (variablesBefore q k) (literalOn (q .n) k)) [] x
+      go on = refl
+      go off = refl
+      go free = refl
+
+  -- the variables before the next row
+  pub before-more : (b : ℕ) → variablesBefore q (b - 1) + blockVariables (q .r) (q .m) (blockOf q b) ≡ variablesBefore q b
+  unfolding variablesBefore
+  before-more zero = add-zero _
+  before-more (suc k) =
+      let e = split-more q (q .m * (2 * q .r + 1)) (terminals (q .r)) k in
+      let f = go (kindOf q k) in
+      let z : suc k - 1 ≡ k = omega arith in
+      ap (λ (x : ℕ). base + split q (q .m * (2 * q .r + 1)) (terminals (q .r)) x + blockVariables (q .r) (q .m) (blockOf q (suc k))) z ∙ omega arith
+    where
+      go : (x : Kind)
+          → blockVariables (q .r) (q .m) (byKind (On (variablesBefore q k) k) (Off (variablesBefore q k) k) Free x)
+          ≡ byKind (q .m * (2 * q .r + 1)) (terminals (q .r)) 0 x
+      go on = refl
+      go off = refl
+      go free = refl
+
+  -- they have 16-bit numbers
+  pub before-most : (k : ℕ) → Good q → k ≤ 2 ^ (q .n) → variablesBefore q k ≤ 65535
+  unfolding variablesBefore split P
+  before-most k g h =
+      let i = g .r-high in
+      let j = g .m-high in
+      let m = row-most 0 (q .r) (q .m) (omega arith, omega arith, omega arith) in
+      let few = variables-few (q .n) (q .r) (omega (arith, g .n-high)) (omega arith) in
+      let rows = weighted-most (setBelow (q .table) k) (offBelow q k) (q .m * (2 * q .r + 1)) (2 * q .r + 2) 465
+      (omega (arith, on-off-most q k, rows-high (q .n) (g .n-high))) (omega arith) (omega arith) in
+      omega arith
 
   -- the first block and those of the rows below k
-  blocks-rows : (k : ℕ) → blocksBelow q (suc k) ≡ clausesOf q 0 ++ rowsFrom (q .n) (q .r) (q .m) base (rowsBelow (q .n) (q .table) (q .r) (q .m) k)
+  blocks-rows : (k : ℕ) → blocksBelow q (suc k) ≡ clausesOf q 0 ++ rowsFrom (q .n) (q .r) (q .m) base (rowsBelow q k)
   unfolding blocksBelow rowsFrom variablesBefore
   blocks-rows zero = sym (append-nil (clausesOf q 0))
   blocks-rows (suc k) =
-      let rows : List Row = rowsBelow (q .n) (q .table) (q .r) (q .m) k in
-      let row : Row = rowAt (q .n) (q .table) k in
+      let rows : List Row = rowsBelow q k in
+      let row : Row = rowAt q k in
       let before : variablesBefore q k ≡ base + variablesIn (q .r) (q .m) rows =
-      ap (λ (x : ℕ). base + x) (sym (variables-below (q .n) (q .table) (q .r) (q .m) k)) in
+      ap (λ (x : ℕ). base + x) (sym (variables-below q k)) in
       ap₂ (λ (f g : Formula). f ++ g) (blocks-rows k) (row-block k ∙ ap (λ (B : ℕ). rowClauses (q .n) (q .r) (q .m) B row) before)
       ∙ append-assoc (clausesOf q 0) (rowsFrom (q .n) (q .r) (q .m) base rows) _
       ∙ ap (λ (f : Formula). clausesOf q 0 ++ f)
       (ap (λ (f : Formula). rowsFrom (q .n) (q .r) (q .m) base rows ++ f) (sym (append-nil (rowClauses (q .n) (q .r) (q .m) (base + variablesIn (q .r) (q .m) rows) row)))
-      ∙ sym (ap (rowsFrom (q .n) (q .r) (q .m) base) (below-more (q .n) (q .table) (q .r) (q .m) k) ∙ rows-append (q .n) (q .r) (q .m) base rows (row ∷ [])))
+      ∙ sym (ap (rowsFrom (q .n) (q .r) (q .m) base) (below-more q k) ∙ rows-append (q .n) (q .r) (q .m) base rows (row ∷ [])))
 
   -- all blocks are the request's clauses
   pub blocks-all : blocksBelow q (suc (2 ^ (q .n))) ≡ formulaOf q
@@ -158,26 +194,27 @@ module _ (q : Request) where
       ∙ getD-append-add (blocksBelow q b) (clausesOf q b ++ a .rest) j [] ∙ List·getD-append (clausesOf q b) (a .rest) [] j l
 
   abbrev rowsSplit : ℕ → ℕ
-  rowsSplit k = split (q .table) (onRowCount (q .n) (q .r) (q .m)) (offRowCount (q .n) (terminals (q .r)) (q .r)) k
+  rowsSplit k = split q (onRowCount (q .n) (q .r) (q .m)) (offRowCount (q .n) (terminals (q .r)) (q .r)) k
 
   -- the clauses below the block of row k
   below-length : (k : ℕ) → length (blocksBelow q (suc k)) ≡ networkCount (q .n) (q .r) + rowsSplit k
   below-length k =
       ap length (blocks-rows k) ∙ length-append (clausesOf q 0) _
-      ∙ ap₂ (λ (x y : ℕ). x + y) (block-length (q .n) (q .r) (q .m) Network) (rows-clauses (q .n) (q .table) (q .r) (q .m) base k)
+      ∙ ap₂ (λ (x y : ℕ). x + y) (block-length (q .n) (q .r) (q .m) Network) (rows-clauses q base k)
 
   -- those of the block of row k
   row-count : (k : ℕ) → blockCount (q .n) (q .r) (q .m) (blockOf q (suc k)) + rowsSplit k ≡ rowsSplit (suc k)
   row-count k =
-      let e = split-more (q .table) (onRowCount (q .n) (q .r) (q .m)) (offRowCount (q .n) (terminals (q .r)) (q .r)) k in
-      let f = go (bit (q .table) k) in
+      let e = split-more q (onRowCount (q .n) (q .r) (q .m)) (offRowCount (q .n) (terminals (q .r)) (q .r)) k in
+      let f = go (kindOf q k) in
       omega arith
     where
-      go : (t : Bool)
-          → blockCount (q .n) (q .r) (q .m) (cond t (On (variablesBefore q k) k) (Off (variablesBefore q k) k))
-          ≡ cond t (onRowCount (q .n) (q .r) (q .m)) (offRowCount (q .n) (terminals (q .r)) (q .r))
-      go true = refl
-      go false = refl
+      go : (x : Kind)
+          → blockCount (q .n) (q .r) (q .m) (byKind (On (variablesBefore q k) k) (Off (variablesBefore q k) k) Free x)
+          ≡ byKind (onRowCount (q .n) (q .r) (q .m)) (offRowCount (q .n) (terminals (q .r)) (q .r)) 0 x
+      go on = refl
+      go off = refl
+      go free = refl
 
   module _ (good : Good q) (number : ℕ) where
     -- a clause by its number: of groups 1 and 2, of row k, and past the last

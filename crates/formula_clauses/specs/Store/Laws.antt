@@ -1,6 +1,6 @@
 -- Laws of the store: literals written on, that the part which pair k names is clause k, and what each refusal answers and leaves.
 -- Assumes nothing.
-use mathlib.Core.Path.{_≡_, refl, sym, ap, ap₂, _∙_}
+use mathlib.Core.Path.{_≡_, refl, sym, ap, ap₂, _∙_, subst}
 use mathlib.Core.List.{List, [], _∷_, _++_, append-assoc, map-append}
 use mathlib.Core.Logic.{⊎-elim}
 use Prim.Native.Nat.{ℕ, suc, _+_, _-_, _*_, _^_, _≤_, _<_}
@@ -24,7 +24,8 @@ use Rattle.formula.specs.Clause.{Low}
 use Rattle.formula.specs.Formula.{formulaOf}
 use Rattle.formula.specs.Count.{variableCount, clauseCount, literalCount}
 use Rattle.formula.specs.Count.Laws.{clause-count, literal-count}
-use Rattle.formula_clauses.specs.Block.{clausesOf, blocksBelow, blockFormula}
+use Rattle.formula_clauses.specs.declared.Block.{Block}
+use Rattle.formula_clauses.specs.Block.{blockClauses, Fits, blockOf, clausesOf, blocksBelow, blockFormula}
 use Rattle.formula_clauses.specs.Block.Laws.{blocks-all, block-within, block-each}
 use Rattle.formula.specs.Formula.Range.{ClauseIn, range, variables-most}
 use Rattle.formula_clauses.specs.declared.store.Stored.{Stored}
@@ -118,6 +119,28 @@ block-low q b j g h l =
     each-then _ _ (getD (clausesOf q b) j []) (λ x k. let u = k .1 in omega arith)
     (each-out (ClauseIn (variableCount q)) (clausesOf q b) [] (block-each q (ClauseIn (variableCount q)) b h (range q)) j l)
 
+-- room for block b of a good request, from what is known of its clauses
+pub block-room : (q : Request) (b first from literals pairs : ℕ) {x : Block} → Good q → b ≤ 2 ^ (q .n) → x ≡ blockOf q b → Fits (q .n) x
+    → from + length (flatten (clausesOf q b)) < 4294967296 → first + length (clausesOf q b) < 4294967296
+    → from + length (flatten (clausesOf q b)) ≤ literals → 2 * (first + length (clausesOf q b)) ≤ pairs
+    → BlockRoom (q .n) (q .r) (q .m) x first from literals pairs
+block-room q b first from literals pairs {x} g h e fits small few long wide =
+    let same : blockClauses (q .n) (q .r) (q .m) x ≡ clausesOf q b = ap (blockClauses (q .n) (q .r) (q .m)) e in
+    let l = ap length same in
+    let f = ap (λ (F : Formula). length (flatten F)) same in
+    record {
+      n-low = g .n-low;
+      n-high = omega (arith, g .n-high);
+      r-high = omega (arith, g .r-high);
+      m-high = omega (arith, g .m-high);
+      fits = fits;
+      low = λ j k. subst (λ (F : Formula). Low (getD F j [])) (sym same) (block-low q b j g h (omega arith));
+      small = omega arith;
+      few = omega arith;
+      literals-long = omega arith;
+      pairs-long = omega arith;
+    }
+
 -- blocks stored one after the other: the slices have the blocks below b
 module _ (q : Request) (literals₀ : List ℤ) (pairs₀ : List ℕ) where
   pub record Below (literals : List ℤ) (pairs : List ℕ) (b first at : ℕ) : Type 0 where
@@ -144,19 +167,14 @@ module _ (q : Request) (literals₀ : List ℤ) (pairs₀ : List ℕ) where
   module _ (roomy : Roomy q (length literals₀) (length pairs₀)) where
     -- there is room for the next block
     pub below-room : (literals : List ℤ) (pairs : List ℕ) (b first at : ℕ) → Below literals pairs b first at → b ≤ 2 ^ (q .n)
-        → BlockRoom q b first at (length literals) (length pairs)
-    below-room literals pairs b first at w h =
+        → {x : Block} → x ≡ blockOf q b → Fits (q .n) x → BlockRoom (q .n) (q .r) (q .m) x first at (length literals) (length pairs)
+    below-room literals pairs b first at w h e fits =
         let i = block-within q b h in
         let c = clause-count q in
         let t = literal-count q in
-        record {
-          good = roomy .good;
-          there = h;
-          small = omega (arith, i .1, w .place, roomy .small);
-          few = omega (arith, i .0, w .clauses-are, roomy .few);
-          literals-long = omega (arith, i .1, w .place, w .literals-long, roomy .literals-long);
-          pairs-long = omega (arith, i .0, w .clauses-are, w .pairs-long, roomy .pairs-long);
-        }
+        block-room q b first at (length literals) (length pairs) (roomy .good) h e fits (omega (arith, i .1, w .place, roomy .small))
+        (omega (arith, i .0, w .clauses-are, roomy .few)) (omega (arith, i .1, w .place, w .literals-long, roomy .literals-long))
+        (omega (arith, i .0, w .clauses-are, w .pairs-long, roomy .pairs-long))
 
     -- one block more
     pub below-more : (literals next : List ℤ) (pairs next-pairs : List ℕ) (b first at end count : ℕ) → Below literals pairs b first at → b ≤ 2 ^ (q .n)

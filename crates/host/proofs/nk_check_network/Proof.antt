@@ -61,8 +61,8 @@ returns c =
     let f = c .before .before in
     let h = handed _ _ _ (f .before .network-of .ensures) _ _ (c .enum-told .given .1) (f .check-network .ensures .0)
     (f .check-network .ensures .1 .1 .0) (f .check-network .ensures .1 .1 .1) in
-    let q = asked (f .before .before .before .args .n) (f .before .before .before .args .table) (f .before .before .before .args .r)
-    (f .before .before .before .args .m) in (
+    let q = asked (f .before .before .before .args .n) (f .before .before .before .args .table) (f .before .before .before .args .free)
+    (f .before .before .before .args .r) (f .before .before .before .args .m) in (
       h .0,
       (
         h .1,

@@ -1,4 +1,4 @@
--- A request is handed on by its four numbers, a refusal by its own; where there are no values, what stood behind the pointers stays.
+-- A request is handed on by its five numbers, a refusal by its own; where there are no values, what stood behind the pointers stays.
 -- Assumes nothing.
 use mathlib.Core.Path.{_≡_, sym, ap, _∙_}
 use mathlib.Core.List.{List}
@@ -11,18 +11,14 @@ use Rattle.host.proofs.nk_read_request.Statement.{statement}
 use Rattle.host.proofs.nk_read_request.Tie as tie
 
 -- an answer x that is y, by y's number and values
-handed : (text : List ℕ) (a b c d : ℕ) (x y : Reading) → x ≡ y → numberOf x ≡ requestNumber text → valuesOf x ≡ requestValues text
+handed : (text : List ℕ) (a b c d e : ℕ) (x y : Reading) → x ≡ y → numberOf x ≡ requestNumber text → valuesOf x ≡ requestValues text
     → (numberOf y ≡ requestNumber text) × ((getD (valuesOf y) 0 a ≡ getD (requestValues text) 0 a)
     × ((getD (valuesOf y) 1 b ≡ getD (requestValues text) 1 b) × ((getD (valuesOf y) 2 c ≡ getD (requestValues text) 2 c)
-    × (getD (valuesOf y) 3 d ≡ getD (requestValues text) 3 d))))
-handed text a b c d x y e n v =
-    let l : valuesOf y ≡ requestValues text = ap valuesOf (sym e) ∙ v in (
-      ap numberOf (sym e) ∙ n,
-      (
-        ap (λ (s : List ℕ). getD s 0 a) l,
-        (ap (λ (s : List ℕ). getD s 1 b) l, (ap (λ (s : List ℕ). getD s 2 c) l, ap (λ (s : List ℕ). getD s 3 d) l)),
-      ),
-    )
+    × ((getD (valuesOf y) 3 d ≡ getD (requestValues text) 3 d) × (getD (valuesOf y) 4 e ≡ getD (requestValues text) 4 e)))))
+handed text a b c d e x y is n v =
+    let l : valuesOf y ≡ requestValues text = ap valuesOf (sym is) ∙ v in
+    let at : (i u : ℕ) → getD (valuesOf y) i u ≡ getD (requestValues text) i u = λ i u. ap (λ (s : List ℕ). getD s i u) l in
+    (ap numberOf (sym is) ∙ n, (at 0 a, (at 1 b, (at 2 c, (at 3 d, at 4 e)))))
 
 read-request-requires : tie.Need-read-request-requires
 read-request-requires c κs = search needs
@@ -41,7 +37,7 @@ returns c =
     let k = c .before in
     let f = k .before .before in
     let s = f .before .before in
-    handed _ (s .args .n .now) (s .args .table .now) (s .args .r .now) (s .args .m .now) _ _ (k .q .given .1)
+    handed _ (s .args .n .now) (s .args .table .now) (s .args .free .now) (s .args .r .now) (s .args .m .now) _ _ (k .q .given .1)
     (f .read-request .ensures .1 .0) (f .read-request .ensures .1 .1)
 
 returns-2 : tie.Need-returns-2
@@ -49,7 +45,7 @@ returns-2 c =
     let k = c .before in
     let f = k .before .before in
     let s = f .before .before in
-    handed _ (s .args .n .now) (s .args .table .now) (s .args .r .now) (s .args .m .now) _ _ (k .number .given .1)
+    handed _ (s .args .n .now) (s .args .table .now) (s .args .free .now) (s .args .r .now) (s .args .m .now) _ _ (k .number .given .1)
     (f .read-request .ensures .1 .0) (f .read-request .ensures .1 .1)
 
 pub nk-read-request-spec : {M : Type 1} → statement M

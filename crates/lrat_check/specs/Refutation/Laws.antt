@@ -33,7 +33,7 @@ module _ (q : Request) (text : List ℕ) (s : Lent) where
       let n = ne-eqb (refusalBefore q (length text) s) 0 (λ z. d (sym e ∙ z)) in
       record { answer = sym (rw (n, e)); slices = rw n }
 
-  -- 2 to 5, 7 and 8
+  -- the refusals of the request, 7 and 8
   pub stops-store : (k : ℕ) → storeRefusal q (length (s .literals)) (length (s .pairs)) ≡ k → (k ≡ 0 → ⊥) → Stops k
   unfolding refusalBefore
   stops-store k e d = stops k (rw (ne-eqb (storeRefusal q (length (s .literals)) (length (s .pairs))) 0 (λ z. d (sym e ∙ z))) e) d

@@ -13,7 +13,9 @@ use Rattle.prelude.specs.Lists.{anyFrom, allFrom}
 use Rattle.prelude.specs.Lists.Laws.{any-in, any-out, any-same, all-in, all-out, first-is, first-none}
 use Rattle.prelude.specs.Tests.{T-eq, T-of, not-true-false, and-in, and-l, and-r, eq→eqb}
 use Rattle.request.specs.Numbers.{refusalOf}
-use Rattle.rows.specs.Rows.{Row, rowAt, rowsOf, bit, literalOn}
+use Rattle.rows.specs.Rows.{Row, kindOf, rowAt, rowsOf, literalOn}
+use Rattle.rows.specs.declared.Kind.{Kind}
+use Rattle.rows.specs.declared.Kind.the-variants.{On, Off, Free}
 use Rattle.rows.specs.Rows.Laws.{rows-length, rows-at}
 use Rattle.request.specs.declared.Request.{Request}
 use Rattle.network.specs.Networks.{terminals, source, sink, switchOf, other, closedOn, literalAt, labelAt}
@@ -227,25 +229,34 @@ module _ (r : ℕ) (w : Network) where
   listed-label i l = sym (getD-take (terminals r) (w .labels) i 0 l)
 
 -- a row of a network, from what the array of closed switches holds
-module _ (r m : ℕ) (w : Network) (n table k : ℕ) (shut : ℕ → Bool)
-    (closed : (s : ℕ) → s < r → shut s ≡ literalOn n k (getD (w .literals) s 0)) where
-  -- the row's closed switches
-  switches-same : (s : ℕ) → s < r → shut s ≡ closedOn (rowAt n table k) (listed r w) s
-  switches-same s l = closed s l ∙ ap (literalOn n k) (listed-literal r w s l)
+module _ (q : Request) (w : Network) (k : ℕ) where
+  -- by its kind
+  right-by : {x : Kind} → x ≡ kindOf q k
+      → rightIf x (q .r) (q .m) (closedOn (rowAt q k) (listed (q .r) w)) (labelAt (listed (q .r) w)) ≡ rowRight (q .r) (q .m) (listed (q .r) w) (rowAt q k)
+  right-by e = ap (λ (x : Kind). rightIf x (q .r) (q .m) (closedOn (rowAt q k) (listed (q .r) w)) (labelAt (listed (q .r) w))) e
 
-  -- an on row
-  pub right-on : (b : Bool) → b ≡ bit table k → b ≡ true → near r shut (labelIn (w .labels)) m 0 ≡ rowRight r m (listed r w) (rowAt n table k)
-  right-on b h e =
-      near-same r shut (closedOn (rowAt n table k) (listed r w)) (labelIn (w .labels)) (labelAt (listed r w)) switches-same
-      (listed-label r w) m 0 (omega arith)
-      ∙ ap (λ (on : Bool). rightIf on r m (closedOn (rowAt n table k) (listed r w)) (labelAt (listed r w))) (sym e ∙ h)
+  -- a free row
+  pub right-free : Free ≡ kindOf q k → true ≡ rowRight (q .r) (q .m) (listed (q .r) w) (rowAt q k)
+  right-free e = right-by e
 
-  -- an off row
-  pub right-off : (b : Bool) → b ≡ bit table k → b ≡ false → apart r shut (labelIn (w .labels)) ≡ rowRight r m (listed r w) (rowAt n table k)
-  right-off b h e =
-      apart-same r shut (closedOn (rowAt n table k) (listed r w)) (labelIn (w .labels)) (labelAt (listed r w)) switches-same
-      (listed-label r w)
-      ∙ ap (λ (on : Bool). rightIf on r m (closedOn (rowAt n table k) (listed r w)) (labelAt (listed r w))) (sym e ∙ h)
+  module _ (shut : ℕ → Bool) (closed : (s : ℕ) → s < q .r → shut s ≡ literalOn (q .n) k (getD (w .literals) s 0)) where
+    -- the row's closed switches
+    switches-same : (s : ℕ) → s < q .r → shut s ≡ closedOn (rowAt q k) (listed (q .r) w) s
+    switches-same s l = closed s l ∙ ap (literalOn (q .n) k) (listed-literal (q .r) w s l)
+
+    -- an on row
+    pub right-on : On ≡ kindOf q k → near (q .r) shut (labelIn (w .labels)) (q .m) 0 ≡ rowRight (q .r) (q .m) (listed (q .r) w) (rowAt q k)
+    right-on e =
+        near-same (q .r) shut (closedOn (rowAt q k) (listed (q .r) w)) (labelIn (w .labels)) (labelAt (listed (q .r) w)) switches-same
+        (listed-label (q .r) w) (q .m) 0 (omega arith)
+        ∙ right-by e
+
+    -- an off row
+    pub right-off : Off ≡ kindOf q k → apart (q .r) shut (labelIn (w .labels)) ≡ rowRight (q .r) (q .m) (listed (q .r) w) (rowAt q k)
+    right-off e =
+        apart-same (q .r) shut (closedOn (rowAt q k) (listed (q .r) w)) (labelIn (w .labels)) (labelAt (listed (q .r) w)) switches-same
+        (listed-label (q .r) w)
+        ∙ right-by e
 
 module _ (q : Request) (w : Network) where
   -- a network that has the form: its literals
@@ -259,13 +270,13 @@ module _ (q : Request) (w : Network) where
 
   -- whether row k is right
   abbrev pub rightAt : ℕ → Bool
-  rightAt k = rowRight (q .r) (q .m) (listed (q .r) w) (rowAt (q .n) (q .table) k)
+  rightAt k = rowRight (q .r) (q .m) (listed (q .r) w) (rowAt q k)
 
   -- row k as an element of the list of rows
   row-test : (k : ℕ) → k < 2 ^ (q .n)
-      → rightAt k ≡ rowRight (q .r) (q .m) (listed (q .r) w) (getD (rowsOf (q .n) (q .table)) k (rowAt (q .n) (q .table) 0))
+      → rightAt k ≡ rowRight (q .r) (q .m) (listed (q .r) w) (getD (rowsOf q) k (rowAt q 0))
   row-test k h =
-      sym (ap (rowRight (q .r) (q .m) (listed (q .r) w)) (rows-at (q .n) (q .table) k (rowAt (q .n) (q .table) 0) h))
+      sym (ap (rowRight (q .r) (q .m) (listed (q .r) w)) (rows-at q k (rowAt q 0) h))
 
   -- the lowest wrong row
   pub rows-wrong : (k : ℕ) (b : Bool) → k < 2 ^ (q .n) → b ≡ rightAt k → b ≡ false → ((j : ℕ) → j < k → rightAt j ≡ true)
@@ -273,7 +284,7 @@ module _ (q : Request) (w : Network) where
   unfolding rowsAnswer firstWrong
   rows-wrong k b h g e f =
       let first : firstWrong q w ≡ k =
-      first-is (λ (row : Row). not (rowRight (q .r) (q .m) (listed (q .r) w) row)) (rowsOf (q .n) (q .table)) (rowAt (q .n) (q .table) 0) k
+      first-is (λ (row : Row). not (rowRight (q .r) (q .m) (listed (q .r) w) row)) (rowsOf q) (rowAt q 0) k
       (rw rows-length h) (T-of _ (ap not (sym (g ∙ row-test k h) ∙ e)))
       (λ j l. T-of _ (ap not (ap not (sym (row-test j (omega arith)) ∙ f j l)))) in
       sym (rw (first, lt-ltb k (2 ^ (q .n)) h))
@@ -283,9 +294,9 @@ module _ (q : Request) (w : Network) where
   unfolding rowsAnswer firstWrong
   rows-right f =
       let first : firstWrong q w ≡ 2 ^ (q .n) =
-      first-none (λ (row : Row). not (rowRight (q .r) (q .m) (listed (q .r) w) row)) (rowsOf (q .n) (q .table)) (rowAt (q .n) (q .table) 0)
+      first-none (λ (row : Row). not (rowRight (q .r) (q .m) (listed (q .r) w) row)) (rowsOf q) (rowAt q 0)
       (λ j l. let h : j < 2 ^ (q .n) = rw rows-length at l in T-of _ (ap not (ap not (sym (row-test j h) ∙ f j h))))
-      ∙ rows-length (q .n) (q .table) in
+      ∙ rows-length q in
       sym (rw (first, le-ltb (2 ^ (q .n)) (2 ^ (q .n)) (let z : 2 ^ (q .n) ≤ 2 ^ (q .n) = omega arith in z)))
 
   -- a request that is refused

@@ -17,6 +17,8 @@ use Rattle.prelude.specs.Lists.Laws.{any-out, any-in, all-out, all-in, first-is
 use Rattle.request.specs.Numbers.{switchesMost, Good, refusalOf}
 use Rattle.request.specs.Numbers.Laws.{refusal-good, good-refusal}
 use Rattle.rows.specs.Rows.{Row, rowAt, rowsOf}
+use Rattle.rows.specs.declared.Kind.{Kind}
+use Rattle.rows.specs.declared.Kind.the-variants.{On, Off, Free}
 use Rattle.rows.specs.Rows.Laws.{rows-length, rows-at}
 use Rattle.request.specs.declared.Request.{Request}
 use Rattle.network.specs.Networks.{terminals, Net, source, sink, switchOf, other, literalAt, labelAt, closedOn, Walk, DoneIf, Done, DoesAll}
@@ -146,16 +148,18 @@ module _ (r : ℕ) (shut : ℕ → Bool) (label : ℕ → ℕ) where
       (and-in (shut (switchOf e)) (near r shut label t (other e)) (w .1 .closed) (walk-near t (other e) es (omega arith) (w .2)))))
 
   -- a row that passes its test is done
-  right-done : (b : Bool) (m : ℕ) → T (rightIf b r m shut label) → DoneIf b r m shut label
+  right-done : (b : Kind) (m : ℕ) → T (rightIf b r m shut label) → DoneIf b r m shut label
   unfolding apart
-  right-done true m t = near-walk m source t
-  right-done false m t = λ es w. neqb→ne _ _ t (walk-part es source (sink r) w)
+  right-done On m t = near-walk m source t
+  right-done Off m t = λ es w. neqb→ne _ _ t (walk-part es source (sink r) w)
+  right-done Free m t = tt
 
   -- and a row that is done passes it
-  done-right : (b : Bool) (m : ℕ) → DoneIf b r m shut label → T (rightIf b r m shut label)
+  done-right : (b : Kind) (m : ℕ) → DoneIf b r m shut label → T (rightIf b r m shut label)
   unfolding apart
-  done-right true m d = walk-near m source (d .0) (d .1) (d .2)
-  done-right false m d = ne→neqb _ _ (λ e. let w = part-walk r source (sink r) (omega arith) e in d (w .0) (w .1))
+  done-right On m d = walk-near m source (d .0) (d .1) (d .2)
+  done-right Off m d = ne→neqb _ _ (λ e. let w = part-walk r source (sink r) (omega arith) e in d (w .0) (w .1))
+  done-right Free m d = tt
 
 -- a test twice negated
 not-not : (b : Bool) → T (not (not b)) → T b
@@ -278,20 +282,20 @@ module _ (q : Request) (w : Network) where
       (eq→eqb _ _ (sym (label-is (labelIn (w .labels) i) (omega arith)) ∙ ap (labelAt net) (sym (label-is i g)) ∙ f .labels-own i g ∙ label-is i g)))))
 
   abbrev rows : List Row
-  rows = rowsOf (q .n) (q .table)
+  rows = rowsOf q
 
   abbrev row : ℕ → Row
-  row k = rowAt (q .n) (q .table) k
+  row k = rowAt q k
 
   -- the test that a row is wrong
   abbrev wrongRow : Row → Bool
   wrongRow x = not (rowRight (q .r) (q .m) net x)
 
   done-of : (x : Row) → T (not (wrongRow x)) → Done (q .r) (q .m) net x
-  done-of x t = right-done (q .r) (closedOn x net) (labelAt net) (x .on) (q .m) (not-not (rowRight (q .r) (q .m) net x) t)
+  done-of x t = right-done (q .r) (closedOn x net) (labelAt net) (x .kind) (q .m) (not-not (rowRight (q .r) (q .m) net x) t)
 
   of-done : (x : Row) → Done (q .r) (q .m) net x → T (not (wrongRow x))
-  of-done x d = not-not-in (rowRight (q .r) (q .m) net x) (done-right (q .r) (closedOn x net) (labelAt net) (x .on) (q .m) d)
+  of-done x d = not-not-in (rowRight (q .r) (q .m) net x) (done-right (q .r) (closedOn x net) (labelAt net) (x .kind) (q .m) d)
 
   -- each row before the first wrong one is done
   before-done : (j : ℕ) → j < firstWrong q w → Done (q .r) (q .m) net (getD rows j (row 0))
@@ -302,7 +306,7 @@ module _ (q : Request) (w : Network) where
   none-does : T (not (ltb (firstWrong q w) (2 ^ (q .n)))) → DoesAll (q .r) (q .m) net rows
   none-does t =
       let h : 2 ^ (q .n) ≤ firstWrong q w = ltb-false (firstWrong q w) (2 ^ (q .n)) (F-eq (ltb (firstWrong q w) (2 ^ (q .n))) t) in
-      let e = rows-length (q .n) (q .table) in
+      let e = rows-length q in
       each-in (Done (q .r) (q .m) net) rows (row 0) (λ j g. before-done j (omega arith))
 
   does-none : DoesAll (q .r) (q .m) net rows → T (not (ltb (firstWrong q w) (2 ^ (q .n))))
@@ -310,7 +314,7 @@ module _ (q : Request) (w : Network) where
   does-none d =
       let e : firstOf wrongRow rows ≡ length rows =
       first-none wrongRow rows (row 0) (λ j g. of-done (getD rows j (row 0)) (each-out (Done (q .r) (q .m) net) rows (row 0) d j g)) in
-      let l = rows-length (q .n) (q .table) in
+      let l = rows-length q in
       T-of (not (ltb (firstOf wrongRow rows) (2 ^ (q .n)))) (ap not (le-ltb (firstOf wrongRow rows) (2 ^ (q .n)) (omega arith)))
 
   -- a first wrong row is the lowest wrong one
@@ -319,12 +323,12 @@ module _ (q : Request) (w : Network) where
   first-lowest t =
       let f : ℕ = firstOf wrongRow rows in
       let h : f < 2 ^ (q .n) = ltb→lt f (2 ^ (q .n)) t in
-      let l = rows-length (q .n) (q .table) in
+      let l = rows-length q in
       record {
         row = h;
         wrong = λ d. T-not (wrongRow (row f)) (of-done (row f) d)
-            (subst (λ (x : Row). T (wrongRow x)) (rows-at (q .n) (q .table) f (row 0) h) (first-holds wrongRow rows (row 0) (omega arith)));
-        lower = λ j g. subst (Done (q .r) (q .m) net) (rows-at (q .n) (q .table) j (row 0) (omega arith)) (before-done j g);
+            (subst (λ (x : Row). T (wrongRow x)) (rows-at q f (row 0) h) (first-holds wrongRow rows (row 0) (omega arith)));
+        lower = λ j g. subst (Done (q .r) (q .m) net) (rows-at q j (row 0) (omega arith)) (before-done j g);
       }
 
   -- and the lowest wrong row is the first
@@ -332,11 +336,11 @@ module _ (q : Request) (w : Network) where
   unfolding firstWrong
   lowest-first k x =
       let h = x .row in
-      let l = rows-length (q .n) (q .table) in
+      let l = rows-length q in
       first-is wrongRow rows (row 0) k (omega arith)
-      (subst (λ (y : Row). T (wrongRow y)) (sym (rows-at (q .n) (q .table) k (row 0) h))
-      (not-T (rowRight (q .r) (q .m) net (row k)) (λ t. x .wrong (right-done (q .r) (closedOn (row k) net) (labelAt net) (row k .on) (q .m) t))))
-      (λ j g. subst (λ (y : Row). T (not (wrongRow y))) (sym (rows-at (q .n) (q .table) j (row 0) (omega arith))) (of-done (row j) (x .lower j g)))
+      (subst (λ (y : Row). T (wrongRow y)) (sym (rows-at q k (row 0) h))
+      (not-T (rowRight (q .r) (q .m) net (row k)) (λ t. x .wrong (right-done (q .r) (closedOn (row k) net) (labelAt net) (row k .kind) (q .m) t))))
+      (λ j g. subst (λ (y : Row). T (not (wrongRow y))) (sym (rows-at q j (row 0) (omega arith))) (of-done (row j) (x .lower j g)))
 
   abbrev unrefused : Bool
   unrefused = eqb (refusalOf q) 0

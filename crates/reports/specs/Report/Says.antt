@@ -51,15 +51,16 @@ module _ (request answer refutation : List ℕ) (s : Lent) where
   report-least text e b =
       subst (SaysLeast request) (sym e) (read-least (requestOf request) refl (subst BeginsLeast e b))
 
--- two reports that begin with "least", for requests of one n, table and M, print one number
+-- two reports that begin with "least", for requests of one n, table, free rows and M, print one number
 pub says-one : (a b t u : List ℕ) (q p : Request) → requestOf a ≡ Taken q → requestOf b ≡ Taken p
-    → q .n ≡ p .n → q .table ≡ p .table → q .m ≡ p .m → (s : SaysLeast a t) (v : SaysLeast b u)
+    → q .n ≡ p .n → q .table ≡ p .table → q .free ≡ p .free → q .m ≡ p .m → (s : SaysLeast a t) (v : SaysLeast b u)
     → (k : ℕ) × (t ≡ leastText k (s .network)) × (u ≡ leastText k (v .network))
-says-one a b t u q p e f n table m s v =
+says-one a b t u q p e f n table free m s v =
     let g : s .asked ≡ q = (let x = s .taken in cc) in
     let h : v .asked ≡ p = (let x = v .taken in cc) in
     let same = least-unique (s .asked) (v .asked) (s .network) (v .network)
     (ap (λ (x : Request). x .n) g ∙ n ∙ sym (ap (λ (x : Request). x .n) h))
     (ap (λ (x : Request). x .table) g ∙ table ∙ sym (ap (λ (x : Request). x .table) h))
+    (ap (λ (x : Request). x .free) g ∙ free ∙ sym (ap (λ (x : Request). x .free) h))
     (ap (λ (x : Request). x .m) g ∙ m ∙ sym (ap (λ (x : Request). x .m) h)) (s .least) (v .least) in
     (s .network .r, s .text-is, v .text-is ∙ ap (λ (k : ℕ). leastText k (v .network)) (sym same))

@@ -1,77 +1,72 @@
--- Laws of a request as a line: its runs of digits, its table, and what each branch of the reading answers. Assumes nothing.
+-- Laws of a request as a line: its runs, its rows, and what each branch of the reading answers. Assumes nothing.
 use mathlib.Core.Path.{_≡_, refl, sym, ap, _∙_, subst}
 use mathlib.Core.Bool.{Bool, true, false, not, _&&_, _||_, cond}
 use mathlib.Core.List.{List, [], _∷_}
 use mathlib.Core.Logic.{⊎-elim}
-use Prim.Native.Nat.{ℕ, zero, suc, _+_, _-_, _*_, _^_, _≤_, _<_}
+use Prim.Native.Nat.{ℕ, zero, suc, _+_, _-_, _*_, _/_, _%_, _^_, _≤_, _<_}
 use native.Mathlib.Nat.{two-pow-succ}
 use native.Mathlib.Numerals.{add-one}
 use native.Mathlib.Omega.{arith}
 use lib.Dec.{T, eqb, leb, ltb, leb→le, ltb→lt, nltb→le, eqb→eq}
 use lib.ListN.{length, getD, drop, drop-of-length-le}
-use lib.Pow.{pow-pos, pow-mono}
+use lib.Pow.{pow-mono}
 use lib.Seq.{drop-cons, getD-drop}
 use borrow.Author.Tests.{lt-ltb, le-ltb, le-leb, lt-leb, eq-eqb, ne-eqb, not-true, not-false}
-use Rattle.prelude.specs.Tests.{T-eq, T-of, not-true-false, and-in, and-l, and-r, or-l, or-r, or-cases, eq→eqb, eq?, le?}
+use Rattle.prelude.specs.Tests.{T-eq, T-of, not-true-false, and-in, and-l, and-r, eq→eqb, eq?, le?}
 use Rattle.prelude.specs.Lists.{allFrom}
 use Rattle.prelude.specs.Lists.Laws.{all-in, all-out}
 use Rattle.request.specs.declared.Request.{Request}
 use Rattle.request.specs.declared.Reading.{Reading}
 use Rattle.request.specs.declared.Reading.the-variants.{Taken, Refused}
-use Rattle.request.specs.Line.{numberOf, valuesOf, digit, digits, runEnd, endedBy, single, isTable, tableAt, numbersRefusal, requestAt, end1, end2, end3, end4, lineForm, requestNumber, requestIn, requestValues, readingBy, requestOf, numbersOf, Run, Digits, Bits, Ends}
-use Rattle.request.specs.Numbers.{inputsMost, switchesMost, seriesMost, rowsMost, asked, Good}
-
--- a byte of a digit's numbers is a digit
-digit-yes : (b : ℕ) → 48 ≤ b → b ≤ 57 → digit b ≡ true
-digit-yes b l h = rw (le-leb 48 b l, le-leb b 57 h)
-
--- one below them is not
-digit-low : (b : ℕ) → b < 48 → digit b ≡ false
-digit-low b h = rw (lt-leb 48 b h)
-
--- nor one above
-digit-high : (b : ℕ) → 57 < b → digit b ≡ false
-digit-high b h = let l : 48 ≤ b = omega arith in rw (le-leb 48 b l, lt-leb b 57 h)
+use Rattle.request.specs.Line.{numberOf, valuesOf, digit, tableCharacter, fieldCharacter, leading, runEnd, endedBy, single, rowCharacter, isTable, marked, numbersRefusal, requestAt, end1, end2, end3, end4, lineForm, requestNumber, requestIn, requestValues, readingBy, requestOf, numbersOf, Run, Bytes, Ends}
+use Rattle.request.specs.Numbers.{inputsMost, switchesMost, seriesMost, rowsMost, bit, asked, Good}
+use Rattle.request.specs.Numbers.Laws.{bit-half, bit-low}
 
 -- a digit's byte is at least 48
 pub digit-least : (b : ℕ) → T (digit b) → 48 ≤ b
 digit-least b t = leb→le 48 b (and-l (leb 48 b) (leb b 57) t)
+
+-- "-" may stand in the table, and in no other field
+pub field-minus : (table : Bool) (b : ℕ) → b ≡ 45 → table ≡ fieldCharacter table b
+field-minus true b e = rw e
+field-minus false b e = rw e
+
+-- of the other bytes a digit may stand in each field
+pub field-other : (table : Bool) (b : ℕ) → (b ≡ 45 → ⊥) → digit b ≡ fieldCharacter table b
+field-other true b d = rw (ne-eqb b 45 d) (or-none (digit b))
+  where
+    or-none : (t : Bool) → t ≡ (t || false)
+    or-none true = refl
+    or-none false = refl
+field-other false b d = refl
 
 -- what is below one more than x or 0 by a test: the test holds
 count-out : (t : Bool) (x j : ℕ) → j < cond t (suc x) 0 → T t × (j ≤ x)
 count-out true x j h = (tt, omega arith)
 count-out false x j h = absurd (omega arith)
 
--- each byte that is counted in front is a digit
-digits-each : (s : List ℕ) (j : ℕ) → j < digits s → T (digit (getD s j 0))
-unfolding digits
-digits-each [] j h = absurd (omega arith)
-digits-each (b ∷ s) zero h = count-out (digit b) (digits s) 0 h .0
-digits-each (b ∷ s) (suc j) h = digits-each s j (omega (arith, count-out (digit b) (digits s) (suc j) h .1))
+-- each byte that is counted in front satisfies p
+leading-each : (p : ℕ → Bool) (s : List ℕ) (j : ℕ) → j < leading p s → T (p (getD s j 0))
+unfolding leading
+leading-each p [] j h = absurd (omega arith)
+leading-each p (b ∷ s) zero h = count-out (p b) (leading p s) 0 h .0
+leading-each p (b ∷ s) (suc j) h = leading-each p s j (omega (arith, count-out (p b) (leading p s) (suc j) h .1))
 
-module _ (s : List ℕ) (i : ℕ) where
-  -- the run at a byte that is no digit is empty
-  run-stop : i < length s → digit (getD s i 0) ≡ false → runEnd s i ≡ i
-  unfolding runEnd digits
+module _ (p : ℕ → Bool) (s : List ℕ) (i : ℕ) where
+  -- a run ends at a byte that does not satisfy p,
+  pub run-stop : i < length s → p (getD s i 0) ≡ false → runEnd p s i ≡ i
+  unfolding runEnd leading
   run-stop h e = rw (drop-cons s i 0, e) (omega arith)
 
-  -- so it ends at a byte below the digits,
-  pub run-low : i < length s → getD s i 0 < 48 → runEnd s i ≡ i
-  run-low h l = run-stop h (digit-low (getD s i 0) l)
-
-  -- at one above them,
-  pub run-high : i < length s → 57 < getD s i 0 → runEnd s i ≡ i
-  run-high h l = run-stop h (digit-high (getD s i 0) l)
-
   -- and where the text ends
-  pub run-past : length s ≤ i → runEnd s i ≡ i
-  unfolding runEnd digits
+  pub run-past : length s ≤ i → runEnd p s i ≡ i
+  unfolding runEnd leading
   run-past h = rw (drop-of-length-le s h) (omega arith)
 
-  -- past a digit it goes on
-  pub run-next : i < length s → 48 ≤ getD s i 0 → getD s i 0 ≤ 57 → runEnd s i ≡ runEnd s (i + 1)
-  unfolding runEnd digits
-  run-next h l u = rw (drop-cons s i 0, digit-yes (getD s i 0) l u, add-one) (omega arith)
+  -- past any other byte it goes on
+  pub run-next : i < length s → p (getD s i 0) ≡ true → runEnd p s i ≡ runEnd p s (i + 1)
+  unfolding runEnd leading
+  run-next h e = rw (drop-cons s i 0, e, add-one) (omega arith)
 
 module _ (s : List ℕ) (from end b : ℕ) where
   -- an empty run is not ended by b,
@@ -91,7 +86,7 @@ module _ (s : List ℕ) (from end b : ℕ) where
   unfolding endedBy
   ended-byte l h = rw (lt-ltb from end l, lt-ltb end (length s) h)
 
-module _ {s : List ℕ} {from end b : ℕ} (r : Run s from end b) where
+module _ {p : ℕ → Bool} {s : List ℕ} {from end b : ℕ} (r : Run p s from end b) where
   -- a run with its end is not empty, and inside the text
   pub run-inside : (from < end) × (end < length s)
   unfolding endedBy
@@ -102,16 +97,16 @@ module _ {s : List ℕ} {from end b : ℕ} (r : Run s from end b) where
         ltb→lt end (length s) (and-l (ltb end (length s)) (eqb (getD s end 0) b) u),
       )
 
-  -- every byte of a run is a digit
-  pub run-all : Digits s from end
+  -- every byte of a run satisfies p
+  pub run-all : Bytes p s from end
   unfolding runEnd
   run-all =
       record {
         each = λ i l u.
             let z : from + (i - from) ≡ i = omega arith in
-            subst (λ (k : ℕ). T (digit (getD s k 0))) z
-            (subst (λ (x : ℕ). T (digit x)) (getD-drop from s (i - from) 0)
-            (digits-each (drop from s) (i - from) (omega (arith, r .is-end))));
+            subst (λ (k : ℕ). T (p (getD s k 0))) z
+            (subst (λ (x : ℕ). T (p x)) (getD-drop from s (i - from) 0)
+            (leading-each p (drop from s) (i - from) (omega (arith, r .is-end))));
       }
 
 module _ (s : List ℕ) (from end : ℕ) where
@@ -125,9 +120,9 @@ module _ (s : List ℕ) (from end : ℕ) where
   unfolding single
   single-long h = rw (ne-eqb (end - from) 1 h)
 
--- a character of a table
-abbrev isBit : List ℕ → ℕ → Bool
-isBit s i = eqb (getD s i 0) 48 || eqb (getD s i 0) 49
+-- the character of a row
+abbrev isRow : List ℕ → ℕ → Bool
+isRow s i = rowCharacter (getD s i 0)
 
 module _ (s : List ℕ) (from end n : ℕ) where
   -- a run of another length than 2^n is no table
@@ -135,98 +130,120 @@ module _ (s : List ℕ) (from end n : ℕ) where
   unfolding isTable
   table-size h = rw (ne-eqb (end - from) (2 ^ n) h)
 
-  -- any other is one
-  pub table-yes : end - from ≡ 2 ^ n → Bits s from end → isTable s from end n ≡ true
+  -- one of 2^n characters of rows is one
+  pub table-yes : end - from ≡ 2 ^ n → Bytes rowCharacter s from end → isTable s from end n ≡ true
   unfolding isTable
   table-yes e b =
       T-eq (isTable s from end n)
-      (and-in (eqb (end - from) (2 ^ n)) (allFrom from (end - from) (isBit s)) (eq→eqb (end - from) (2 ^ n) e)
-      (all-in from (end - from) (isBit s) (λ i l u. b .each i l (omega arith))))
+      (and-in (eqb (end - from) (2 ^ n)) (allFrom from (end - from) (isRow s)) (eq→eqb (end - from) (2 ^ n) e)
+      (all-in from (end - from) (isRow s) (λ i l u. b .each i l (omega arith))))
 
   -- a table has 2^n characters
   pub table-length : isTable s from end n ≡ true → end - from ≡ 2 ^ n
   unfolding isTable
   table-length e =
       eqb→eq (end - from) (2 ^ n)
-      (and-l (eqb (end - from) (2 ^ n)) (allFrom from (end - from) (isBit s)) (T-of (isTable s from end n) e))
+      (and-l (eqb (end - from) (2 ^ n)) (allFrom from (end - from) (isRow s)) (T-of (isTable s from end n) e))
 
-  -- each of them 0 or 1
-  pub table-bits : isTable s from end n ≡ true → Bits s from end
+  -- each of them 0, 1 or "-"
+  pub table-rows : isTable s from end n ≡ true → Bytes rowCharacter s from end
   unfolding isTable
-  table-bits e =
+  table-rows e =
       record {
         each = λ i l u.
-            all-out from (end - from) (isBit s)
-            (and-r (eqb (end - from) (2 ^ n)) (allFrom from (end - from) (isBit s)) (T-of (isTable s from end n) e))
+            all-out from (end - from) (isRow s)
+            (and-r (eqb (end - from) (2 ^ n)) (allFrom from (end - from) (isRow s)) (T-of (isTable s from end n) e))
             i l (omega arith);
       }
 
--- no bytes yet
-pub bits-none : (s : List ℕ) (from : ℕ) → Bits s from from
-bits-none s from = record { each = λ i l u. absurd (omega arith) }
+  -- a run with another character is no table
+  pub table-other : (i : ℕ) → from ≤ i → i < end → rowCharacter (getD s i 0) ≡ false → isTable s from end n ≡ false
+  table-other i l u x =
+      not-true-false (isTable s from end n)
+      (λ (e : isTable s from end n ≡ true). subst T x (table-rows e .each i l u))
 
--- one byte more that is 0 or 1
-pub bits-more : (s : List ℕ) (from i : ℕ) → Bits s from i → 48 ≤ getD s i 0 → getD s i 0 ≤ 49 → Bits s from (i + 1)
-bits-more s from i b x y =
-    record {
-      each = λ j l u.
-          ⊎-elim (λ (h : i ≤ j). subst (λ (k : ℕ). T (isBit s k)) (let z : i ≡ j = omega arith in z) is-bit)
-          (λ (h : j < i). b .each j l h) (le? i j);
-    }
-  where
-    is-bit : T (isBit s i)
-    is-bit =
-        ⊎-elim (λ (h : getD s i 0 ≤ 48). or-l (eqb (getD s i 0) 48) (eqb (getD s i 0) 49) (eq→eqb (getD s i 0) 48 (omega arith)))
-        (λ (h : 48 < getD s i 0). or-r (eqb (getD s i 0) 48) (eqb (getD s i 0) 49) (eq→eqb (getD s i 0) 49 (omega arith)))
-        (le? (getD s i 0) 48)
+module _ (p : ℕ → Bool) (s : List ℕ) (from : ℕ) where
+  -- no bytes yet
+  pub bytes-none : Bytes p s from from
+  bytes-none = record { each = λ i l u. absurd (omega arith) }
 
--- the byte of a character 0 or 1
-pub bits-byte : {s : List ℕ} {from end : ℕ} → Bits s from end → (i : ℕ) → from ≤ i → i < end
-    → (48 ≤ getD s i 0) × (getD s i 0 ≤ 49)
-bits-byte {s} b i l u =
-    ⊎-elim (λ (h : T (eqb (getD s i 0) 48)). let e = eqb→eq (getD s i 0) 48 h in (omega arith, omega arith))
-    (λ (h : T (eqb (getD s i 0) 49)). let e = eqb→eq (getD s i 0) 49 h in (omega arith, omega arith))
-    (or-cases (eqb (getD s i 0) 48) (eqb (getD s i 0) 49) (b .each i l u))
+  -- one byte more that satisfies p
+  pub bytes-more : (i : ℕ) → Bytes p s from i → p (getD s i 0) ≡ true → Bytes p s from (i + 1)
+  bytes-more i b e =
+      record {
+        each = λ j l u.
+            ⊎-elim (λ (h : i ≤ j). subst (λ (k : ℕ). T (p (getD s k 0))) (let z : i ≡ j = omega arith in z) (T-of (p (getD s i 0)) e))
+            (λ (h : j < i). b .each j l h) (le? i j);
+      }
 
--- a run with another character is no table
-pub table-other : (s : List ℕ) (from end n i : ℕ) → from ≤ i → i < end → (getD s i 0 ≡ 48 → ⊥) → (getD s i 0 ≡ 49 → ⊥)
-    → isTable s from end n ≡ false
-table-other s from end n i l u x y =
-    not-true-false (isTable s from end n)
-    (λ (e : isTable s from end n ≡ true).
-    ⊎-elim (λ (t : T (eqb (getD s i 0) 48)). x (eqb→eq (getD s i 0) 48 t))
-    (λ (t : T (eqb (getD s i 0) 49)). y (eqb→eq (getD s i 0) 49 t))
-    (or-cases (eqb (getD s i 0) 48) (eqb (getD s i 0) 49) (table-bits s from end n e .each i l u)))
+-- a test's number is 1 or 0
+mark-low : (t : Bool) → cond t 1 0 < 2
+mark-low true = omega arith
+mark-low false = omega arith
 
--- k characters 0 or 1 give a number below 2^k
-pub table-below : (s : List ℕ) (from k : ℕ) → Bits s from (from + k) → tableAt s from k < 2 ^ k
-unfolding tableAt
-table-below s from zero b = omega arith
-table-below s from (suc k) b =
-    let up : tableAt s (suc from) k < 2 ^ k = table-below s (suc from) k (record { each = λ i l u. b .each i (omega arith) (omega arith) }) in
-    omega (arith, bits-byte b from (omega arith) (omega arith), two-pow-succ k)
+-- as the lowest bit of a number it is the test
+mark-bit : (t : Bool) (x : ℕ) → bit (cond t 1 0 + 2 * x) 0 ≡ t
+mark-bit true x = bit-low (1 + 2 * x) ∙ eq-eqb ((1 + 2 * x) % 2) 1 (omega arith)
+mark-bit false x = bit-low (0 + 2 * x) ∙ ne-eqb ((0 + 2 * x) % 2) 1 (λ e. omega arith)
 
-module _ (s : List ℕ) (end i : ℕ) where
-  -- the table of no characters
-  pub table-none : end ≤ i → tableAt s i (end - i) ≡ 0
-  unfolding tableAt
-  table-none h = rw (let z : end - i ≡ 0 = omega arith in z)
+-- and half the number is what stands above it
+mark-half : (t : Bool) (x : ℕ) → (cond t 1 0 + 2 * x) / 2 ≡ x
+mark-half t x = omega (arith, mark-low t)
 
-  -- one character more in front
-  pub table-front : (value : ℕ) → value ≡ tableAt s i (end - i) → 0 < i → i ≤ end
-      → 2 * value + (getD s (i - 1) 0 - 48) ≡ tableAt s (i - 1) (end - (i - 1))
-  unfolding tableAt
-  table-front value e l h =
-      let z : end - (i - 1) ≡ suc (end - i) = omega arith in
-      let y : suc (i - 1) ≡ i = omega arith in
-      rw (z, y, ← e) (omega arith)
+-- the rows of k characters are a number below 2^k
+pub marked-below : (b : ℕ) (s : List ℕ) (from k : ℕ) → marked b s from k < 2 ^ k
+unfolding marked
+marked-below b s from zero = omega arith
+marked-below b s from (suc k) =
+    omega (arith, marked-below b s (suc from) k, mark-low (eqb (getD s from 0) b), two-pow-succ k)
 
-  -- the last of at most as many characters 0 or 1 as rows give a number of as many bits
-  pub table-word : (from : ℕ) → Bits s from end → from ≤ i → i ≤ end → end - from ≤ rowsMost
-      → tableAt s i (end - i) < 2 ^ rowsMost
-  table-word from b l h w =
+-- bit j of it is whether row j has the character b
+pub marked-bit : (b : ℕ) (s : List ℕ) (from k j : ℕ) → j < k → bit (marked b s from k) j ≡ eqb (getD s (from + j) 0) b
+unfolding marked
+marked-bit b s from zero j h = absurd (omega arith)
+marked-bit b s from (suc k) zero h =
+    rw (let z : from + 0 ≡ from = omega arith in z) (mark-bit (eqb (getD s from 0) b) (marked b s (suc from) k))
+marked-bit b s from (suc k) (suc j) h =
+    bit-half (marked b s from (suc k)) j
+    ∙ rw (mark-half (eqb (getD s from 0) b) (marked b s (suc from) k), let z : from + suc j ≡ suc from + j = omega arith in z)
+    (marked-bit b s (suc from) k j (omega arith))
+
+-- where no character is b, no row is marked
+pub marked-absent : (b : ℕ) (s : List ℕ) (from k : ℕ) → ((i : ℕ) → from ≤ i → i < from + k → getD s i 0 ≡ b → ⊥) → marked b s from k ≡ 0
+unfolding marked
+marked-absent b s from zero h = refl
+marked-absent b s from (suc k) h =
+    rw (ne-eqb (getD s from 0) b (h from (omega arith) (omega arith)))
+    (rw (marked-absent b s (suc from) k (λ i l u. h i (omega arith) (omega arith))))
+
+module _ (b : ℕ) (s : List ℕ) (end i : ℕ) where
+  -- the rows of no characters
+  pub marked-none : end ≤ i → marked b s i (end - i) ≡ 0
+  unfolding marked
+  marked-none h = rw (let z : end - i ≡ 0 = omega arith in z)
+
+  module _ (rows : ℕ) (e : rows ≡ marked b s i (end - i)) (l : 0 < i) (h : i ≤ end) where
+    -- one character more in front
+    marked-front : cond (eqb (getD s (i - 1) 0) b) 1 0 + 2 * rows ≡ marked b s (i - 1) (end - (i - 1))
+    unfolding marked
+    marked-front =
+        let z : end - (i - 1) ≡ suc (end - i) = omega arith in
+        let y : suc (i - 1) ≡ i = omega arith in
+        rw (z, y, ← e)
+
+    -- which is b,
+    pub marked-yes : getD s (i - 1) 0 ≡ b → 2 * rows + 1 ≡ marked b s (i - 1) (end - (i - 1))
+    marked-yes x = omega (arith, rw (eq-eqb (getD s (i - 1) 0) b x) at marked-front)
+
+    -- and which is not
+    pub marked-no : (getD s (i - 1) 0 ≡ b → ⊥) → 2 * rows ≡ marked b s (i - 1) (end - (i - 1))
+    marked-no x = omega (arith, rw (ne-eqb (getD s (i - 1) 0) b x) at marked-front)
+
+  -- the last of at most as many characters as rows give a number of as many bits
+  pub marked-word : (from : ℕ) → from ≤ i → i ≤ end → end - from ≤ rowsMost → marked b s i (end - i) < 2 ^ rowsMost
+  marked-word from l h w =
       let p : 2 ^ (end - i) ≤ 2 ^ rowsMost = pow-mono {i = end - i} {j = rowsMost} (omega arith) in
-      omega (arith, table-below s i (end - i) (record { each = λ j x y. b .each j (omega arith) (omega arith) }))
+      omega (arith, marked-below b s i (end - i))
 
 module _ (s : List ℕ) (a b c d n : ℕ) (is-n : n ≡ single s 0 a) where
   -- n below 1
@@ -257,49 +274,50 @@ module _ (s : List ℕ) (a b c d n : ℕ) (is-n : n ≡ single s 0 a) where
   numbers-m l h t r is-r x m is-m y =
       rw (← is-n, le-leb 1 n l, le-leb n inputsMost h, t, ← is-r, le-ltb switchesMost r x, ← is-m, lt-ltb seriesMost m y)
 
-  -- four good numbers
+  -- good numbers
   pub numbers-good : 1 ≤ n → n ≤ inputsMost → isTable s (a + 1) b n ≡ true → (r : ℕ) → r ≡ single s (b + 1) c → r ≤ switchesMost
-      → (m : ℕ) → m ≡ single s (c + 1) d → m ≤ seriesMost → (table : ℕ) → table ≡ tableAt s (a + 1) (b - (a + 1))
-      → numbersOf s a b c d ≡ Taken (record { n = n; table = table; r = r; m = m })
+      → (m : ℕ) → m ≡ single s (c + 1) d → m ≤ seriesMost → (table : ℕ) → table ≡ marked 49 s (a + 1) (b - (a + 1))
+      → (free : ℕ) → free ≡ marked 45 s (a + 1) (b - (a + 1))
+      → numbersOf s a b c d ≡ Taken (record { n = n; table = table; free = free; r = r; m = m })
   unfolding numbersOf numbersRefusal
-  numbers-good l h t r is-r x m is-m y table is-table =
+  numbers-good l h t r is-r x m is-m y table is-table free is-free =
       rw (← is-n, le-leb 1 n l, le-leb n inputsMost h, t, ← is-r, le-ltb switchesMost r x)
-      (rw (← is-m, le-ltb seriesMost m y, ← is-table))
+      (rw (← is-m, le-ltb seriesMost m y, ← is-table, ← is-free))
 
-module _ (s : List ℕ) (from end b : ℕ) (x : Bool) (is-end : end ≡ runEnd s from) (is-x : x ≡ endedBy s from end b) where
+module _ (p : ℕ → Bool) (s : List ℕ) (from end b : ℕ) (x : Bool) (is-end : end ≡ runEnd p s from) (is-x : x ≡ endedBy s from end b) where
   -- a run that passes the test of its end
-  pub run-yes : not x ≡ false → Run s from end b
+  pub run-yes : not x ≡ false → Run p s from end b
   run-yes e = record { is-end = is-end; ended = sym is-x ∙ not-false x e }
 
   -- and one that fails it
-  pub run-no : not x ≡ true → endedBy s from (runEnd s from) b ≡ false
+  pub run-no : not x ≡ true → endedBy s from (runEnd p s from) b ≡ false
   run-no e = rw (← is-end, ← is-x) (not-true x e)
 
 -- no first run
-pub form-first : (s : List ℕ) → endedBy s 0 (runEnd s 0) 32 ≡ false → requestOf s ≡ Refused 1
+pub form-first : (s : List ℕ) → endedBy s 0 (runEnd digit s 0) 32 ≡ false → requestOf s ≡ Refused 1
 unfolding requestOf requestNumber lineForm
 form-first s e = rw e
 
-module _ {s : List ℕ} {a : ℕ} (first : Run s 0 a 32) where
+module _ {s : List ℕ} {a : ℕ} (first : Run digit s 0 a 32) where
   -- no second
-  pub form-second : endedBy s (a + 1) (runEnd s (a + 1)) 32 ≡ false → requestOf s ≡ Refused 1
+  pub form-second : endedBy s (a + 1) (runEnd tableCharacter s (a + 1)) 32 ≡ false → requestOf s ≡ Refused 1
   unfolding requestOf requestNumber lineForm
   form-second e = rw (← first .is-end, first .ended, e)
 
-  module _ {b : ℕ} (second : Run s (a + 1) b 32) where
+  module _ {b : ℕ} (second : Run tableCharacter s (a + 1) b 32) where
     -- no third
-    pub form-third : endedBy s (b + 1) (runEnd s (b + 1)) 32 ≡ false → requestOf s ≡ Refused 1
+    pub form-third : endedBy s (b + 1) (runEnd digit s (b + 1)) 32 ≡ false → requestOf s ≡ Refused 1
     unfolding requestOf requestNumber lineForm
     form-third e = rw (← first .is-end, first .ended, ← second .is-end, second .ended, e)
 
-    module _ {c : ℕ} (third : Run s (b + 1) c 32) where
+    module _ {c : ℕ} (third : Run digit s (b + 1) c 32) where
       -- no fourth
-      pub form-fourth : endedBy s (c + 1) (runEnd s (c + 1)) 10 ≡ false → requestOf s ≡ Refused 1
+      pub form-fourth : endedBy s (c + 1) (runEnd digit s (c + 1)) 10 ≡ false → requestOf s ≡ Refused 1
       unfolding requestOf requestNumber lineForm
       form-fourth e =
           rw (← first .is-end, first .ended, ← second .is-end, second .ended, ← third .is-end, third .ended, e)
 
-      module _ {d : ℕ} (fourth : Run s (c + 1) d 10) where
+      module _ {d : ℕ} (fourth : Run digit s (c + 1) d 10) where
         -- what follows the newline, and the numbers
         form-read : requestOf s ≡ readingBy (cond (eqb (d + 1) (length s)) (numbersRefusal s a b c d) 1) (requestAt s a b c d)
         unfolding requestOf requestNumber lineForm
@@ -330,13 +348,17 @@ module _ {s : List ℕ} {a : ℕ} (first : Run s 0 a 32) where
               d-low = run-inside fourth .1;
             }
 
--- a table of 2^n characters gives a number below 2^2^n
-pub table-fits : (s : List ℕ) (from end n : ℕ) → isTable s from end n ≡ true → tableAt s from (end - from) < 2 ^ (2 ^ n)
-table-fits s from end n e =
-    let l = table-length s from end n e in
-    let b = table-bits s from end n e in
-    subst (λ (k : ℕ). tableAt s from (end - from) < 2 ^ k) l
-    (table-below s from (end - from) (record { each = λ i x y. b .each i x (omega (arith, pow-pos n)) }))
+-- the rows of a table of 2^n characters are a number below 2^2^n
+pub marked-fits : (b : ℕ) (s : List ℕ) (from end n : ℕ) → isTable s from end n ≡ true → marked b s from (end - from) < 2 ^ (2 ^ n)
+marked-fits b s from end n e =
+    subst (λ (k : ℕ). marked b s from (end - from) < 2 ^ k) (table-length s from end n e) (marked-below b s from (end - from))
+
+-- no row has two characters
+pub marked-once : (a b : ℕ) → (a ≡ b → ⊥) → (s : List ℕ) (from k j : ℕ) → j < k
+    → bit (marked a s from k) j ≡ true → bit (marked b s from k) j ≡ false
+marked-once a b d s from k j h e =
+    let f : getD s (from + j) 0 ≡ a = eqb→eq (getD s (from + j) 0) a (T-of _ (sym (marked-bit a s from k j h) ∙ e)) in
+    marked-bit b s from k j h ∙ ne-eqb (getD s (from + j) 0) b (λ g. d (sym f ∙ g))
 
 -- the number of a reading is the rule's
 pub number-is : (s : List ℕ) → numberOf (requestOf s) ≡ requestNumber s
@@ -355,7 +377,7 @@ values-is s =
 -- no two answers have the same number and values
 pub readings-differ : (x y : Reading) → numberOf x ≡ numberOf y → valuesOf x ≡ valuesOf y → x ≡ y
 readings-differ (Taken p) (Taken q) e f =
-    let z : _≡_ {A = Request} (record { n = p .n; table = p .table; r = p .r; m = p .m }) (record { n = q .n; table = q .table; r = q .r; m = q .m }) = cc in
+    let z : _≡_ {A = Request} (asked (p .n) (p .table) (p .free) (p .r) (p .m)) (asked (q .n) (q .table) (q .free) (q .r) (q .m)) = cc in
     ap Taken z
 readings-differ (Taken p) (Refused k) e f = absurd (let z : _≡_ {A = ℕ} 0 1 = cc in omega arith)
 readings-differ (Refused k) (Taken q) e f = absurd (let z : _≡_ {A = ℕ} 0 1 = cc in omega arith)
@@ -371,7 +393,7 @@ before-refusal : (t : Bool) (k x : ℕ) → cond t x (suc k) ≡ 0 → x ≡ 0
 before-refusal true k x e = e
 before-refusal false k x e = absurd (omega arith)
 
--- four numbers that are not refused are good
+-- numbers that are not refused are good
 numbers-taken : (s : List ℕ) (a b c d : ℕ) → numbersRefusal s a b c d ≡ 0 → Good (requestAt s a b c d)
 unfolding numbersRefusal
 numbers-taken s a b c d e =
@@ -382,11 +404,14 @@ numbers-taken s a b c d e =
     let e2 = past-refusal (not (isTable s (a + 1) b n)) 2 _ (e1 .1) in
     let e3 = past-refusal (ltb switchesMost r) 3 _ (e2 .1) in
     let e4 = past-refusal (ltb seriesMost m) 4 _ (e3 .1) in
+    let is-table = T-eq (isTable s (a + 1) b n) (twice (isTable s (a + 1) b n) (e2 .0)) in
     let nn : T (leb 1 n && leb n inputsMost) = twice (leb 1 n && leb n inputsMost) (e1 .0) in
     record {
       n-low = leb→le 1 n (and-l (leb 1 n) (leb n inputsMost) nn);
       n-high = leb→le n inputsMost (and-r (leb 1 n) (leb n inputsMost) nn);
-      table-low = table-fits s (a + 1) b n (T-eq (isTable s (a + 1) b n) (twice (isTable s (a + 1) b n) (e2 .0)));
+      table-low = marked-fits 49 s (a + 1) b n is-table;
+      free-low = marked-fits 45 s (a + 1) b n is-table;
+      one-kind = λ k l. marked-once 49 45 (λ z. omega arith) s (a + 1) (b - (a + 1)) k (omega (arith, table-length s (a + 1) b n is-table));
       r-high = nltb→le switchesMost r (e3 .0);
       m-high = nltb→le seriesMost m (e4 .0);
     }
@@ -404,7 +429,17 @@ request-good s q e =
     let is-q : requestIn s ≡ q = cc in
     subst Good is-q (numbers-taken s (end1 s) (end2 s) (end3 s) (end4 s) (before-refusal (lineForm s) 0 _ z))
 
+-- where no byte of the table's run is "-", no row is free
+pub free-none : (s : List ℕ) → ((i : ℕ) → end1 s + 1 ≤ i → i < end2 s → getD s i 0 ≡ 45 → ⊥) → requestIn s .free ≡ 0
+free-none s h = marked-absent 45 s (end1 s + 1) (end2 s - (end1 s + 1)) (λ i l u. h i l (omega arith))
+
 -- the values of a request that was read, handed over in their order, make that request
-pub asked-read : (q : Request) (a b c d : ℕ)
-    → asked (getD (valuesOf (Taken q)) 0 a) (getD (valuesOf (Taken q)) 1 b) (getD (valuesOf (Taken q)) 2 c) (getD (valuesOf (Taken q)) 3 d) ≡ q
-asked-read q a b c d = refl
+pub asked-read : (q : Request) (a b c d e : ℕ)
+    → asked
+    (getD (valuesOf (Taken q)) 0 a)
+    (getD (valuesOf (Taken q)) 1 b)
+    (getD (valuesOf (Taken q)) 2 c)
+    (getD (valuesOf (Taken q)) 3 d)
+    (getD (valuesOf (Taken q)) 4 e)
+    ≡ q
+asked-read q a b c d e = refl

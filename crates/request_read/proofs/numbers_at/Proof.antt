@@ -1,12 +1,13 @@
 -- `request_read::numbers_at` meets its contract. Each return is one law of the numbers, from what the calls before it ensure. Assumes nothing.
 use mathlib.Core.Path.{_≡_, sym, _∙_}
 use mathlib.Core.Bool.{true}
-use Prim.Native.Nat.{_+_}
+use Prim.Native.Nat.{_+_, _-_, _≤_}
 use native.Mathlib.Omega.{arith}
 use borrow.Author.Needs.{needs}
-use Rattle.request.specs.Line.Laws.{numbers-low, numbers-high, numbers-table, numbers-r, numbers-m, numbers-good, table-length, table-bits}
 use borrow.Author.Tests.{not-true, not-false}
+use Rattle.request.specs.Line.Laws.{numbers-low, numbers-high, numbers-table, numbers-r, numbers-m, numbers-good, table-length}
 use Rattle.request.specs.Line.{isTable}
+use Rattle.request.specs.Numbers.{rowsMost}
 use Rattle.request.specs.Numbers.Laws.{rows-high}
 use Rattle.request_read.proofs.numbers_at.Statement.{statement}
 use Rattle.request_read.proofs.numbers_at.Tie as tie
@@ -14,6 +15,10 @@ use Rattle.request_read.proofs.numbers_at.Tie as tie
 -- the run is a table, past its test
 is-table : (c : tie.Else3) → isTable (c .before .before .before .before .before .before .args .text .now) (c .before .before .before .before .before .before .args .a + 1) (c .before .before .before .before .before .before .args .b) (c .before .before .before .before .one-digit .result) ≡ true
 is-table c = sym (c .before .is-table .ensures) ∙ not-false (c .before .is-table .result) (c .if3 .left)
+
+-- so it has at most as many characters as there may be rows
+few-rows : (c : tie.Else3) → c .before .before .before .before .before .before .args .b - (c .before .before .before .before .before .before .args .a + 1) ≤ rowsMost
+few-rows c = omega (arith, table-length _ _ _ _ (is-table c), rows-high (c .before .before .before .before .one-digit .result) (omega arith))
 
 one-digit-requires : tie.Need-one-digit-requires
 one-digit-requires c κs = search needs
@@ -57,19 +62,22 @@ returns-5 c =
     sym (numbers-m _ _ _ _ _ _ (c .before .before .before .before .before .before .before .before .one-digit .ensures) (omega arith) (omega arith) (is-table (c .before .before .before .before))
     _ (c .before .before .before .one-digit2 .ensures) (omega arith) _ (c .before .one-digit3 .ensures) (omega arith))
 
-add-table-value : tie.Need-add-table-value
-add-table-value c = search needs
+add-rows-marked : tie.Need-add-rows-marked
+add-rows-marked c = search needs
 
-table-value-requires : tie.Need-table-value-requires
-table-value-requires c κs =
-    let t = is-table (c .before .before .before .before) in
-    let n = c .before .before .before .before .before .before .before .before .one-digit .result in
-    (search needs, search needs, omega (arith, table-length _ _ _ _ t, rows-high n (omega arith)), table-bits _ _ _ _ t)
+rows-marked-requires : tie.Need-rows-marked-requires
+rows-marked-requires c κs = (search needs, search needs, few-rows (c .before .before .before .before))
+
+add-rows-marked-2 : tie.Need-add-rows-marked-2
+add-rows-marked-2 c = search needs
+
+rows-marked-requires-2 : tie.Need-rows-marked-requires-2
+rows-marked-requires-2 c κs = (search needs, search needs, few-rows (c .before .before .before .before .before))
 
 returns-6 : tie.Need-returns-6
 returns-6 c =
-    sym (numbers-good _ _ _ _ _ _ (c .before .before .before .before .before .before .before .before .before .one-digit .ensures) (omega arith) (omega arith) (is-table (c .before .before .before .before .before))
-    _ (c .before .before .before .before .one-digit2 .ensures) (omega arith) _ (c .before .before .one-digit3 .ensures) (omega arith) _ (c .table-value .ensures))
+    sym (numbers-good _ _ _ _ _ _ (c .before .before .before .before .before .before .before .before .before .before .one-digit .ensures) (omega arith) (omega arith) (is-table (c .before .before .before .before .before .before))
+    _ (c .before .before .before .before .before .one-digit2 .ensures) (omega arith) _ (c .before .before .before .one-digit3 .ensures) (omega arith) _ (c .before .rows-marked .ensures) _ (c .rows-marked2 .ensures))
 
 pub numbers-at-spec : {M : Type 1} → statement M
 numbers-at-spec =
@@ -87,6 +95,8 @@ numbers-at-spec =
     add-one-digit-2
     one-digit-requires-3
     returns-5
-    add-table-value
-    table-value-requires
+    add-rows-marked
+    rows-marked-requires
+    add-rows-marked-2
+    rows-marked-requires-2
     returns-6)

@@ -1,6 +1,6 @@
--- Laws of rows: on rows by the count of ones, and the rule of the table of input rows. Assumes nothing.
+-- Laws of rows: kinds, rows by the count of ones, and the rule of the table of input rows. Assumes nothing.
 use mathlib.Core.Path.{_≡_, refl, sym, ap, _∙_, subst}
-use mathlib.Core.Bool.{Bool, false, not}
+use mathlib.Core.Bool.{Bool, true, false, not, cond}
 use Prim.Native.Nat.{ℕ, zero, suc, _+_, _-_, _*_, _/_, _%_, _^_, _<_, _≤_}
 use native.Mathlib.Nat.{mod-one, mod-lt, mod-eq-of-lt, div-eq-of-lt, div-one, pow-suc, add-comm, not-suc-le-zero, le-of-suc-le-suc, one-mul, lt-of-lt-of-le}
 use native.Mathlib.Numerals.{one-add}
@@ -11,9 +11,14 @@ use lib.Dec.{eqb, eqb→eq, lit<}
 use lib.ListN.{length, getD}
 use lib.Pow.{mod-pow-add, mod-mod-pow, shr-shr, high, low, field, pow-pos, pow-lt, pow-mono}
 use Rattle.prelude.specs.Finite.{below, below-at}
-use Rattle.prelude.specs.Lists.Laws.{length-tab, getD-tab}
-use Rattle.request.specs.Numbers.{inputsMost}
-use Rattle.rows.specs.Rows.{bit, onBelow, inputTable, inputRows, literalOn, literalValue, Row, rowAt, rowsOf}
+use Rattle.prelude.specs.Lists.{tab}
+use Rattle.prelude.specs.Lists.Laws.{length-tab, getD-tab, tab-same}
+use Rattle.prelude.specs.Tests.{T-of}
+use Rattle.request.specs.Numbers.{inputsMost, withSwitches}
+use Rattle.request.specs.declared.Request.{Request}
+use Rattle.rows.specs.declared.Kind.{Kind}
+use Rattle.rows.specs.declared.Kind.the-variants.{On, Off, Free}
+use Rattle.rows.specs.Rows.{bit, setBelow, kindOf, byKind, offBelow, inputTable, inputRows, literalOn, literalValue, Row, rowAt, rowsOf}
 
 -- a number has no bit at k or above it where it is below 2^k
 pub bit-none : (x k : ℕ) → x < 2 ^ k → bit x k ≡ false
@@ -64,9 +69,9 @@ digit-ones zero h = refl
 digit-ones (suc zero) h = refl
 digit-ones (suc (suc d)) h = absurd (not-suc-le-zero (le-of-suc-le-suc (le-of-suc-le-suc h)))
 
--- the ones of the k lowest digits of a table are its on rows below row k
-pub ones-below : (table k : ℕ) → ones (table % 2 ^ k) ≡ onBelow table k
-unfolding onBelow ones
+-- the ones of the k lowest digits of a number are its rows below row k
+pub ones-below : (rows k : ℕ) → ones (rows % 2 ^ k) ≡ setBelow rows k
+unfolding setBelow ones
 ones-below t zero = rw mod-one
 ones-below t (suc k) =
     ap (λ (n : ℕ). ones (t % 2 ^ n)) (sym (one-add k)) ∙ ap ones (mod-pow-add t 1 k)
@@ -75,13 +80,13 @@ ones-below t (suc k) =
     ∙ add-comm (t / 2 ^ k % 2) (ones (t % 2 ^ k))
     ∙ ap (λ (x : ℕ). x + t / 2 ^ k % 2) (ones-below t k)
 
--- a table below 2^k has as many on rows as ones
-pub ones-all : (table k : ℕ) → table < 2 ^ k → ones table ≡ onBelow table k
+-- a number below 2^k has as many rows as ones
+pub ones-all : (rows k : ℕ) → rows < 2 ^ k → ones rows ≡ setBelow rows k
 ones-all t k h = ap ones (sym (mod-eq-of-lt h)) ∙ ones-below t k
 
--- no on row lies at k or above it in a table below 2^k
-pub on-past : (table k j : ℕ) → table < 2 ^ k → k ≤ j → onBelow table j ≡ onBelow table k
-on-past t k j h l = sym (ones-all t j (lt-of-lt-of-le h (pow-mono l))) ∙ ones-all t k h
+-- none of its rows lies at k or above it
+pub set-past : (rows k j : ℕ) → rows < 2 ^ k → k ≤ j → setBelow rows j ≡ setBelow rows k
+set-past t k j h l = sym (ones-all t j (lt-of-lt-of-le h (pow-mono l))) ∙ ones-all t k h
 
 -- the shift 1 << k, at a width above k
 pub one-shifted : (k w : ℕ) → k < w → 1 * 2 ^ k % 2 ^ w ≡ 2 ^ k
@@ -144,12 +149,104 @@ pub no-literal : (n k v : ℕ) → 1 ≤ n → n ≤ inputsMost → k < 2 ^ n �
 unfolding literalValue
 no-literal n k v low high hk h = rw (le-leb 1 n low, le-leb n inputsMost high, lt-ltb k (2 ^ n) hk, le-ltb v (2 * n) h)
 
--- a table of n inputs has 2^n rows
-pub rows-length : (n table : ℕ) → length (rowsOf n table) ≡ 2 ^ n
+module _ (q : Request) (k : ℕ) where
+  -- a row's kind by its two bits
+  pub kind-on : bit (q .table) k ≡ true → kindOf q k ≡ On
+  unfolding kindOf
+  kind-on e = rw e
+
+  pub kind-free : bit (q .table) k ≡ false → bit (q .free) k ≡ true → kindOf q k ≡ Free
+  unfolding kindOf
+  kind-free e f = rw (e, f)
+
+  pub kind-off : bit (q .table) k ≡ false → bit (q .free) k ≡ false → kindOf q k ≡ Off
+  unfolding kindOf
+  kind-off e f = rw (e, f)
+
+-- one row more has a one in the table where it is on
+pub on-step : (q : Request) (k : ℕ) → setBelow (q .table) (suc k) ≡ setBelow (q .table) k + byKind 1 0 0 (kindOf q k)
+unfolding setBelow kindOf
+on-step q k = ap (λ (x : ℕ). setBelow (q .table) k + x) (go (q .table / 2 ^ k % 2) (bit (q .free) k) (omega arith))
+  where
+    go : (d : ℕ) (f : Bool) → d < 2 → d ≡ byKind 1 0 0 (cond (eqb d 1) On (cond f Free Off))
+    go zero true h = refl
+    go zero false h = refl
+    go (suc zero) f h = refl
+    go (suc (suc d)) f h = absurd (omega arith)
+
+-- and in the number of free rows where it is free, since no row has both
+free-step : (q : Request) (k : ℕ) → (bit (q .table) k ≡ true → bit (q .free) k ≡ false)
+    → setBelow (q .free) (suc k) ≡ setBelow (q .free) k + byKind 0 0 1 (kindOf q k)
+unfolding setBelow kindOf
+free-step q k one = ap (λ (x : ℕ). setBelow (q .free) k + x) (go (bit (q .table) k) (q .free / 2 ^ k % 2) (omega arith) one)
+  where
+    go : (t : Bool) (d : ℕ) → d < 2 → (t ≡ true → eqb d 1 ≡ false) → d ≡ byKind 0 0 1 (cond t On (cond (eqb d 1) Free Off))
+    go true zero h o = refl
+    go true (suc zero) h o = absurd (T-of false (sym (o refl)))
+    go false zero h o = refl
+    go false (suc zero) h o = refl
+    go t (suc (suc d)) h o = absurd (omega arith)
+
+-- there are no more on and off rows than rows
+pub on-off-most : (q : Request) (k : ℕ) → setBelow (q .table) k + offBelow q k ≤ k
+unfolding offBelow setBelow
+on-off-most q zero = omega arith
+on-off-most q (suc k) = go (kindOf q k) (on-step q k) (on-off-most q k)
+  where
+    go : (x : Kind) → setBelow (q .table) (suc k) ≡ setBelow (q .table) k + byKind 1 0 0 x → setBelow (q .table) k + offBelow q k ≤ k
+        → setBelow (q .table) (suc k) + (offBelow q k + byKind 0 1 0 x) ≤ suc k
+    go On e h = omega arith
+    go Off e h = omega arith
+    go Free e h = omega arith
+
+-- the off rows are the rows less the ones of both numbers, where no row has both
+pub off-count : (q : Request) (k : ℕ) → ((j : ℕ) → j < k → bit (q .table) j ≡ true → bit (q .free) j ≡ false)
+    → setBelow (q .table) k + setBelow (q .free) k + offBelow q k ≡ k
+unfolding offBelow setBelow
+off-count q zero one = refl
+off-count q (suc k) one =
+    go (kindOf q k) (on-step q k) (free-step q k (one k (omega arith))) (off-count q k (λ j h. one j (omega arith)))
+  where
+    go : (x : Kind) → setBelow (q .table) (suc k) ≡ setBelow (q .table) k + byKind 1 0 0 x
+        → setBelow (q .free) (suc k) ≡ setBelow (q .free) k + byKind 0 0 1 x → setBelow (q .table) k + setBelow (q .free) k + offBelow q k ≡ k
+        → setBelow (q .table) (suc k) + setBelow (q .free) (suc k) + (offBelow q k + byKind 0 1 0 x) ≡ suc k
+    go On e f h = omega arith
+    go Off e f h = omega arith
+    go Free e f h = omega arith
+
+-- on by a 1 of the table and off by a 0, as document 01 has it
+abbrev pub onOff : Bool → Kind
+onOff true = On
+onOff false = Off
+
+-- so are the rows of a request without free rows: they are those of its n and table alone
+pub rows-full : (q : Request) → q .free ≡ 0 → rowsOf q ≡ tab 0 (2 ^ (q .n)) (λ k. record { kind = onOff (bit (q .table) k); value = literalOn (q .n) k })
+unfolding rowsOf kindOf
+rows-full q e = tab-same 0 (2 ^ (q .n)) (rowAt q) _ (λ k. ap (λ (x : Kind). record { kind = x; value = literalOn (q .n) k }) (full k))
+  where
+    full : (k : ℕ) → kindOf q k ≡ onOff (bit (q .table) k)
+    full k = rw (e, bit-none 0 k (pow-pos k)) (go (bit (q .table) k))
+      where
+        go : (t : Bool) → cond t On Off ≡ onOff t
+        go true = refl
+        go false = refl
+
+-- a request has 2^n rows
+pub rows-length : (q : Request) → length (rowsOf q) ≡ 2 ^ (q .n)
 unfolding rowsOf
-rows-length n table = length-tab 0 (2 ^ n) (rowAt n table)
+rows-length q = length-tab 0 (2 ^ (q .n)) (rowAt q)
 
 -- row k among them
-pub rows-at : (n table k : ℕ) (d : Row) → k < 2 ^ n → getD (rowsOf n table) k d ≡ rowAt n table k
+pub rows-at : (q : Request) (k : ℕ) (d : Row) → k < 2 ^ (q .n) → getD (rowsOf q) k d ≡ rowAt q k
 unfolding rowsOf
-rows-at n table k d h = getD-tab 0 (2 ^ n) (rowAt n table) k d h ∙ ap (rowAt n table) (let z : 0 + k ≡ k = omega arith in z)
+rows-at q k d h = getD-tab 0 (2 ^ (q .n)) (rowAt q) k d h ∙ ap (rowAt q) (let z : 0 + k ≡ k = omega arith in z)
+
+-- only n and the two row numbers matter
+pub rows-same : (q p : Request) → q .n ≡ p .n → q .table ≡ p .table → q .free ≡ p .free → rowsOf q ≡ rowsOf p
+unfolding rowsOf kindOf
+rows-same q p a b c = rw (a, b, c)
+
+-- the number of switches does not
+pub rows-with : (q : Request) (r : ℕ) → rowsOf (withSwitches q r) ≡ rowsOf q
+unfolding rowsOf kindOf
+rows-with q r = refl

@@ -2,7 +2,7 @@
 use mathlib.Core.Path.{_≡_, sym, ap, _∙_, subst}
 use mathlib.Core.List.{List}
 use mathlib.Core.Logic.{inl, inr}
-use Prim.Native.Nat.{ℕ, _≤_}
+use Prim.Native.Nat.{ℕ, _-_, _≤_}
 use native.Mathlib.Omega.{arith}
 use lib.ListN.{length, length-append, length-replicate}
 use Rattle.prelude.specs.Lists.Laws.{length-tab}
@@ -13,6 +13,7 @@ use Rattle.request.specs.Numbers.Laws.{refusal-good}
 use Rattle.network.specs.declared.Network.{Network}
 use Rattle.network.specs.declared.Checked.the-variants.{Does as does}
 use Rattle.network.specs.Networks.{Net, switches, FormedAs, Formed, Does}
+use Rattle.network.specs.Networks.Laws.{does-with}
 use Rattle.network.specs.Check.{checkedOf}
 use Rattle.network.specs.Value.{terminalsMost, listed}
 use Rattle.network.specs.Least.{LeastFor}
@@ -61,7 +62,7 @@ module _ (q : Request) (answer refutation : List ℕ) (s : Lent) where
   -- at k = 0, and where the refutation for k−1 ends in "none", each network that does the job has k switches or more
   none-fewer : NoneBelow q refutation s → (v : Net) → Formed q v → Does q v → q .r ≤ switches v
   none-fewer (inl z) v form job = omega arith
-  none-fewer (inr o) v form job = let h = none-more (smaller q) refutation s o v form job in omega arith
+  none-fewer (inr o) v form job = let h = none-more (smaller q) refutation s o v form (does-with q (q .r - 1) v .1 job) in omega arith
 
   -- the conditions of "least" are those of demand 3
   conditions-for : LeastConditions q answer refutation s → LeastFor q (readingOf q answer .network)

@@ -46,6 +46,9 @@ off-row-at-requires c κs =
     let a = subst (Asked (s .args .n) (s .args .r) (s .args .m) (s .args .number)) (c .before .b2 .given .1) (s .pre .4, s .pre .5) in
     (s .pre .0, s .pre .1, s .pre .2, a .0 .0, a .0 .1, a .1)
 
+enum-told-2 : tie.Need-enum-told-2
+enum-told-2 c = search needs
+
 returns : tie.Need-returns
 returns c =
     let s = c .before .before .before in
@@ -61,6 +64,12 @@ returns-3 c =
     let s = c .before .before .before .before in
     subst (Made (s .args .n) (s .args .r) (s .args .m) (s .args .number) (c .off-row-at .result)) (sym (c .before .before .b2 .given .1)) (c .off-row-at .ensures)
 
+returns-4 : tie.Need-returns-4
+returns-4 c =
+    let s = c .before .before in
+    let a = subst (Asked (s .args .n) (s .args .r) (s .args .m) (s .args .number)) (c .enum-told2 .given .1) (s .pre .4, s .pre .5) in
+    absurd (omega (arith, a .1))
+
 pub block-clause-spec : {M : Type 1} → statement M
 block-clause-spec =
     tie.close
@@ -71,6 +80,8 @@ block-clause-spec =
     on-row-at-requires
     enum-known-b-2
     off-row-at-requires
+    enum-told-2
     returns
     returns-2
-    returns-3)
+    returns-3
+    returns-4)

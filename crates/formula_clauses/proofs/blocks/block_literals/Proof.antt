@@ -24,6 +24,9 @@ enum-told-3 c = search needs
 off-row-literals-requires : tie.Need-off-row-literals-requires
 off-row-literals-requires c κs = search needs
 
+enum-told-4 : tie.Need-enum-told-4
+enum-told-4 c = search needs
+
 returns : tie.Need-returns
 returns c =
     let s = c .before .before .before in
@@ -39,6 +42,11 @@ returns-3 c =
     let s = c .before .before .before in
     (c .off-row-literals .ensures .0 ∙ ap (blockLiterals (s .args .n) (s .args .r) (s .args .m)) (sym (c .before .enum-told3 .given .1)), omega arith)
 
+returns-4 : tie.Need-returns-4
+returns-4 c =
+    let s = c .before .before in
+    (ap (blockLiterals (s .args .n) (s .args .r) (s .args .m)) (sym (c .enum-told4 .given .1)), omega arith)
+
 pub block-literals-spec : {M : Type 1} → statement M
 block-literals-spec =
     tie.close
@@ -49,6 +57,8 @@ block-literals-spec =
     on-row-literals-requires
     enum-told-3
     off-row-literals-requires
+    enum-told-4
     returns
     returns-2
-    returns-3)
+    returns-3
+    returns-4)

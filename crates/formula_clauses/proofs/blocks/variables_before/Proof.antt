@@ -1,12 +1,10 @@
 -- The variables of groups 1 and 2, and those of the rows below row k. Assumes nothing.
-use mathlib.Core.Path.{ap₂}
-use Prim.Native.Nat.{ℕ, _+_, _-_, _*_}
+use mathlib.Core.Path.{_≡_, sym, ap₂, subst}
+use Prim.Native.Nat.{ℕ, _+_, _≤_}
 use native.Mathlib.Omega.{arith}
-use Rattle.rows.specs.Rows.{onBelow}
-use Rattle.formula.specs.Formula.{P}
-use Rattle.formula.specs.Count.{split, variablesBefore}
-use Rattle.formula.specs.Count.Laws.{on-most, weighted-most}
-use Rattle.formula_clauses.specs.Bounds.{row-most, variables-few}
+use Rattle.formula.specs.Count.{variablesBefore}
+use Rattle.formula_clauses.specs.Bounds.{row-most}
+use Rattle.formula_clauses.specs.Block.Laws.{before-most}
 use borrow.Author.Needs.{needs}
 use Rattle.formula_clauses.proofs.blocks.variables_before.Statement.{statement}
 use Rattle.formula_clauses.proofs.blocks.variables_before.Tie as tie
@@ -36,22 +34,19 @@ add-weighted-2 : tie.Need-add-weighted-2
 add-weighted-2 c = search needs
 
 weighted-requires : tie.Need-weighted-requires
-weighted-requires c κs = let q = c .before .before .before .args .q in let m = row-most 0 (q .r) (q .m) (omega arith, omega arith, omega arith) in (omega arith, omega arith, omega arith)
+weighted-requires c κs = let s = c .before .before .before in let q = s .args .q in let m = row-most 0 (q .r) (q .m) (omega arith, omega arith, omega arith) in (s .pre .0, s .pre .1, omega arith, omega arith)
 
 add-result : tie.Need-add-result
 add-result c = search needs
 
 returns : tie.Need-returns
-unfolding variablesBefore split P
+unfolding variablesBefore
 returns c =
     let s = c .before .before .before .before in
     let q = s .args .q in
-    let m = row-most 0 (q .r) (q .m) (omega arith, omega arith, omega arith) in
-    let few = variables-few (q .n) (q .r) (omega arith) (omega arith) in
-    let rows = weighted-most (onBelow (q .table) (s .args .k)) (s .args .k - onBelow (q .table) (s .args .k)) (q .m * (2 * q .r + 1)) (2 * q .r + 2) 465
-    (omega (arith, on-most (q .table) (s .args .k))) (omega arith) (omega arith) in
-    let e = ap₂ (λ (x y : ℕ). x + y) (c .before .network-variables .ensures .0) (c .weighted .ensures .0) in
-    (e, omega (arith, e, few, rows))
+    let e : c .before .network-variables .result + c .weighted .result ≡ variablesBefore q (s .args .k) =
+    ap₂ (λ (x y : ℕ). x + y) (c .before .network-variables .ensures .0) (c .weighted .ensures .0) in
+    (e, subst (λ (x : ℕ). x ≤ 65535) (sym e) (before-most q (s .args .k) (s .pre .0) (s .pre .1)))
 
 pub variables-before-spec : {M : Type 1} → statement M
 variables-before-spec =

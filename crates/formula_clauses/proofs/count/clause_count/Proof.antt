@@ -1,8 +1,7 @@
 -- So many for groups 1 and 2, and so many for each on row and each off row. Assumes nothing.
-use mathlib.Core.Path.{ap, ap₂, _∙_}
+use mathlib.Core.Path.{ap₂, _∙_}
 use Prim.Native.Nat.{ℕ, _+_, _^_}
 use native.Mathlib.Omega.{arith}
-use Rattle.request.specs.Numbers.Laws.{rows-high, rows-shl}
 use Rattle.formula.specs.Count.{split, clauseCount, clausesBefore}
 use borrow.Author.Needs.{needs}
 use Rattle.formula_clauses.proofs.count.clause_count.Statement.{statement}
@@ -26,15 +25,10 @@ off-row-count-requires c κs = let s = c .before .before .before .before in let 
 network-count-requires : tie.Need-network-count-requires
 network-count-requires c κs = search needs
 
-shl-weighted : tie.Need-shl-weighted
-shl-weighted c = let s = c .before .before .before .before .before .before in let g = s .pre in let h = g .n-high in let k = g .r-high in let l = g .m-high in omega arith
-
-weighted-requires : tie.Need-weighted-requires
-weighted-requires c κs =
+weighted-all-requires : tie.Need-weighted-all-requires
+weighted-all-requires c κs =
     let s = c .before .before .before .before .before .before in let g = s .pre in let h = g .n-high in let k = g .r-high in let l = g .m-high in
-    let p = rows-shl (s .args .q .n) 32 h (omega arith) in
-    let m = rows-high (s .args .q .n) h in
-    (omega (arith, p), omega arith, omega arith)
+    (g, omega arith, omega arith)
 
 add-result : tie.Need-add-result
 add-result c = search needs
@@ -46,8 +40,8 @@ returns c =
     let q = s .args .q in
     let w = c .before .before .before in
     ap₂ (λ (x y : ℕ). x + y) (c .before .network-count .ensures .0)
-    (c .weighted .ensures .0 ∙ ap (split (q .table) (w .on-row-count .result) (c .before .before .off-row-count .result)) (rows-shl (q .n) 32 (s .pre .n-high) (omega arith))
-    ∙ ap₂ (λ (x y : ℕ). split (q .table) x y (2 ^ (q .n))) (w .on-row-count .ensures .0) (c .before .before .off-row-count .ensures .0))
+    (c .weighted-all .ensures .0
+    ∙ ap₂ (λ (x y : ℕ). split q x y (2 ^ (q .n))) (w .on-row-count .ensures .0) (c .before .before .off-row-count .ensures .0))
 
 pub clause-count-spec : {M : Type 1} → statement M
 clause-count-spec =
@@ -59,7 +53,6 @@ clause-count-spec =
     on-row-count-requires
     off-row-count-requires
     network-count-requires
-    shl-weighted
-    weighted-requires
+    weighted-all-requires
     add-result
     returns)

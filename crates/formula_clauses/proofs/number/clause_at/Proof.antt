@@ -27,15 +27,22 @@ good c = request-good (c .before .before .args .q) (c .before .test-request .ens
 small : (q : Request) → Good q → (q .n ≤ 8) × (q .r ≤ 15) × (q .m ≤ 15)
 small q g = let h = g .n-high in let k = g .r-high in let l = g .m-high in (omega arith, omega arith, omega arith)
 
--- what is known where the rows' clauses are counted
+-- the request and the number, seen from where the rows' clauses are counted
+abbrev request : tie.After-weighted → Request
+request w = w .before .before .before .before .before .before .before .before .before .before .before .before .before .before .args .q
+
+abbrev wanted : tie.After-weighted → ℕ
+wanted w = w .before .before .before .before .before .before .before .before .before .before .before .before .before .before .args .number
+
+-- what is known there
 record Counted (w : tie.After-weighted) : Type 0 where
-  here : Good (w .before .before .before .before .before .before .before .before .before .before .before .before .before .before .args .q)
-  first-is : w .before .before .before .before .before .before .before .before .before .before .block-count .result ≡ networkCount (w .before .before .before .before .before .before .before .before .before .before .before .before .before .before .args .q .n) (w .before .before .before .before .before .before .before .before .before .before .before .before .before .before .args .q .r)
-  past : networkCount (w .before .before .before .before .before .before .before .before .before .before .before .before .before .before .args .q .n) (w .before .before .before .before .before .before .before .before .before .before .before .before .before .before .args .q .r) ≤ w .before .before .before .before .before .before .before .before .before .before .before .before .before .before .args .number
+  here : Good (request w)
+  first-is : w .before .before .before .before .before .before .before .before .before .before .block-count .result ≡ networkCount (request w .n) (request w .r)
+  past : networkCount (request w .n) (request w .r) ≤ wanted w
   split-is : (k : ℕ)
-      → split (w .before .before .before .before .before .before .before .before .before .before .before .before .before .before .args .q .table) (w .before .before .before .before .before .on-row-count .result) (w .before .before .off-row-count .result) k
-      ≡ split (w .before .before .before .before .before .before .before .before .before .before .before .before .before .before .args .q .table) (onRowCount (w .before .before .before .before .before .before .before .before .before .before .before .before .before .before .args .q .n) (w .before .before .before .before .before .before .before .before .before .before .before .before .before .before .args .q .r) (w .before .before .before .before .before .before .before .before .before .before .before .before .before .before .args .q .m)) (offRowCount (w .before .before .before .before .before .before .before .before .before .before .before .before .before .before .args .q .n) (terminals (w .before .before .before .before .before .before .before .before .before .before .before .before .before .before .args .q .r)) (w .before .before .before .before .before .before .before .before .before .before .before .before .before .before .args .q .r)) k
-  total-is : w .weighted .result ≡ split (w .before .before .before .before .before .before .before .before .before .before .before .before .before .before .args .q .table) (w .before .before .before .before .before .on-row-count .result) (w .before .before .off-row-count .result) (2 ^ (w .before .before .before .before .before .before .before .before .before .before .before .before .before .before .args .q .n))
+      → split (request w) (w .before .before .before .before .before .on-row-count .result) (w .before .before .off-row-count .result) k
+      ≡ split (request w) (onRowCount (request w .n) (request w .r) (request w .m)) (offRowCount (request w .n) (terminals (request w .r)) (request w .r)) k
+  total-is : w .weighted .result ≡ split (request w) (w .before .before .before .before .before .on-row-count .result) (w .before .before .off-row-count .result) (2 ^ (request w .n))
 
 counted : (w : tie.After-weighted) → Counted w
 counted w =
@@ -46,25 +53,25 @@ counted w =
       here = good e;
       first-is = first;
       past = omega (arith, w .before .before .before .before .before .before .before .before .before .if2 .left, first);
-      split-is = λ k. ap₂ (λ (x y : ℕ). split (q .table) x y k) (w .before .before .before .before .before .on-row-count .ensures .0) (w .before .before .off-row-count .ensures .0);
-      total-is = w .weighted .ensures .0 ∙ ap (split (q .table) (w .before .before .before .before .before .on-row-count .result) (w .before .before .off-row-count .result)) (rows-shl (q .n) 32 (good e .n-high) (omega arith));
+      split-is = λ k. ap₂ (λ (x y : ℕ). split q x y k) (w .before .before .before .before .before .on-row-count .ensures .0) (w .before .before .off-row-count .ensures .0);
+      total-is = w .weighted .ensures .0 ∙ ap (split q (w .before .before .before .before .before .on-row-count .result) (w .before .before .off-row-count .result)) (rows-shl (q .n) 32 (good e .n-high) (omega arith));
     }
 
 -- the number of a clause among those of a row
 abbrev inRow : Request → ℕ → ℕ → ℕ
 inRow q number k =
-    number - networkCount (q .n) (q .r) - split (q .table) (onRowCount (q .n) (q .r) (q .m)) (offRowCount (q .n) (terminals (q .r)) (q .r)) k
+    number - networkCount (q .n) (q .r) - split q (onRowCount (q .n) (q .r) (q .m)) (offRowCount (q .n) (terminals (q .r)) (q .r)) k
 
 -- the row that is found
 found : (c : tie.After-row-of)
-    → (inRow (c .before .before .before .before .before .before .before .before .before .before .before .before .before .before .before .before .args .q) (c .before .before .before .before .before .before .before .before .before .before .before .before .before .before .before .before .args .number) (c .row-of .result) < blockCount (c .before .before .before .before .before .before .before .before .before .before .before .before .before .before .before .before .args .q .n) (c .before .before .before .before .before .before .before .before .before .before .before .before .before .before .before .before .args .q .r) (c .before .before .before .before .before .before .before .before .before .before .before .before .before .before .before .before .args .q .m) (blockOf (c .before .before .before .before .before .before .before .before .before .before .before .before .before .before .before .before .args .q) (c .row-of .result + 1)))
-    × (getD (clausesOf (c .before .before .before .before .before .before .before .before .before .before .before .before .before .before .before .before .args .q) (c .row-of .result + 1)) (inRow (c .before .before .before .before .before .before .before .before .before .before .before .before .before .before .before .before .args .q) (c .before .before .before .before .before .before .before .before .before .before .before .before .before .before .before .before .args .number) (c .row-of .result)) [] ≡ clauseOf (c .before .before .before .before .before .before .before .before .before .before .before .before .before .before .before .before .args .q) (c .before .before .before .before .before .before .before .before .before .before .before .before .before .before .before .before .args .number))
+    → (inRow (request (c .before .before)) (wanted (c .before .before)) (c .row-of .result) < blockCount (request (c .before .before) .n) (request (c .before .before) .r) (request (c .before .before) .m) (blockOf (request (c .before .before)) (c .row-of .result + 1)))
+    × (getD (clausesOf (request (c .before .before)) (c .row-of .result + 1)) (inRow (request (c .before .before)) (wanted (c .before .before)) (c .row-of .result)) [] ≡ clauseOf (request (c .before .before)) (wanted (c .before .before)))
 found c =
     let w = c .before .before in
     let k = counted w in
     let r = c .row-of .ensures in
-    let q = w .before .before .before .before .before .before .before .before .before .before .before .before .before .before .args .q in
-    number-row q (k .here) (w .before .before .before .before .before .before .before .before .before .before .before .before .before .before .args .number) (c .row-of .result) (r .0) (k .past)
+    let q = request w in
+    number-row q (k .here) (wanted w) (c .row-of .result) (r .0) (k .past)
     (omega (arith, k .first-is, k .split-is (c .row-of .result), r .1)) (omega (arith, k .first-is, k .split-is (c .row-of .result + 1), r .2))
 
 test-request-requires : tie.Need-test-request-requires
@@ -127,13 +134,13 @@ weighted-requires c κs =
     let e = c .before .before .before .before .before .before .before .before .before .before .before in
     let q = e .before .before .args .q in
     let h = good e .n-high in
-    (omega (arith, rows-shl (q .n) 32 h (omega arith), rows-high (q .n) h), omega (arith, c .before .before .before .before .on-row-count .ensures .1), omega (arith, c .before .off-row-count .ensures .1))
+    (good e, omega (arith, rows-shl (q .n) 32 h (omega arith)), omega (arith, c .before .before .before .before .on-row-count .ensures .1), omega (arith, c .before .off-row-count .ensures .1))
 
 returns-3 : tie.Need-returns-3
 returns-3 c =
     let w = c .before in
     let k = counted w in
-    form-none (number-past _ (k .here) _ (k .past) (omega (arith, c .if3 .taken, k .first-is, k .total-is, k .split-is (2 ^ (w .before .before .before .before .before .before .before .before .before .before .before .before .before .before .args .q .n)))))
+    form-none (number-past _ (k .here) _ (k .past) (omega (arith, c .if3 .taken, k .first-is, k .total-is, k .split-is (2 ^ (request w .n)))))
 
 row-of-requires : tie.Need-row-of-requires
 row-of-requires c κs =
@@ -142,7 +149,7 @@ row-of-requires c κs =
     (k .here, omega (arith, w .before .before .before .before .before .on-row-count .ensures .1), omega (arith, w .before .before .off-row-count .ensures .1), omega (arith, c .if3 .left, k .total-is))
 
 add-block-at : tie.Need-add-block-at
-add-block-at c = let q = c .before .before .before .before .before .before .before .before .before .before .before .before .before .before .before .before .args .q in omega (arith, c .row-of .ensures .0, rows-high (q .n) (counted (c .before .before) .here .n-high))
+add-block-at c = let q = request (c .before .before) in omega (arith, c .row-of .ensures .0, rows-high (q .n) (counted (c .before .before) .here .n-high))
 
 block-at-requires-2 : tie.Need-block-at-requires-2
 block-at-requires-2 c κs = let k = counted (c .before .before) in (k .here, omega (arith, c .row-of .ensures .0))
@@ -151,8 +158,7 @@ weighted-requires-2 : tie.Need-weighted-requires-2
 weighted-requires-2 c κs =
     let w = c .before .before .before in
     let k = counted w in
-    let q = w .before .before .before .before .before .before .before .before .before .before .before .before .before .before .args .q in
-    (omega (arith, c .before .row-of .ensures .0, rows-high (q .n) (k .here .n-high)), omega (arith, w .before .before .before .before .before .on-row-count .ensures .1), omega (arith, w .before .before .off-row-count .ensures .1))
+    (k .here, omega (arith, c .before .row-of .ensures .0), omega (arith, w .before .before .before .before .before .on-row-count .ensures .1), omega (arith, w .before .before .off-row-count .ensures .1))
 
 sub-block-clause : tie.Need-sub-block-clause
 sub-block-clause c = search needs
@@ -162,7 +168,7 @@ block-clause-requires-2 c κs =
     let r = c .before .before in
     let w = r .before .before in
     let k = counted w in
-    let q = w .before .before .before .before .before .before .before .before .before .before .before .before .before .before .args .q in
+    let q = request w in
     let s = small q (k .here) in
     let f = found r .0 in
     let e = ap (blockCount (q .n) (q .r) (q .m)) (c .before .block-at2 .ensures .0) in
@@ -173,9 +179,9 @@ returns-4 c =
     let r = c .before .before .before in
     let w = r .before .before in
     let k = counted w in
-    let q = w .before .before .before .before .before .before .before .before .before .before .before .before .before .before .args .q in
-    let rest : w .before .before .before .before .before .before .before .before .before .before .before .before .before .before .args .number - w .before .before .before .before .before .before .before .before .before .before .block-count .result - c .before .weighted2 .result ≡ inRow q (w .before .before .before .before .before .before .before .before .before .before .before .before .before .before .args .number) (r .row-of .result) =
-    ap₂ (λ (x y : ℕ). w .before .before .before .before .before .before .before .before .before .before .before .before .before .before .args .number - x - y) (k .first-is) (c .before .weighted2 .ensures .0 ∙ k .split-is (r .row-of .result)) in
+    let q = request w in
+    let rest : wanted w - w .before .before .before .before .before .before .before .before .before .before .block-count .result - c .before .weighted2 .result ≡ inRow q (wanted w) (r .row-of .result) =
+    ap₂ (λ (x y : ℕ). wanted w - x - y) (k .first-is) (c .before .weighted2 .ensures .0 ∙ k .split-is (r .row-of .result)) in
     form-of (c .block-clause2 .ensures)
     (ap₂ (λ (x : Block) (j : ℕ). getD (blockClauses (q .n) (q .r) (q .m) x) j []) (c .before .before .block-at2 .ensures .0) rest ∙ found r .1)
 

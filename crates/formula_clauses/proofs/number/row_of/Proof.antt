@@ -11,10 +11,10 @@ use Rattle.formula_clauses.proofs.number.row_of.Statement.{statement}
 use Rattle.formula_clauses.proofs.number.row_of.Tie as tie
 
 abbrev Inv-loop : tie.InvT-loop
-Inv-loop on off number table rows low₀ high₀ low high = (low < high) × (high ≤ rows) × (split table on off low ≤ number) × (number < split table on off high)
+Inv-loop q on off number rows low₀ high₀ low high = (low < high) × (high ≤ rows) × (split q on off low ≤ number) × (number < split q on off high)
 
 abbrev μ-loop : tie.MeasureT-loop
-μ-loop on off number table rows low₀ high₀ low high = high - low
+μ-loop q on off number rows low₀ high₀ low high = high - low
 
 cast-rows : tie.Need-cast-rows Inv-loop μ-loop
 cast-rows c = search needs
@@ -26,7 +26,7 @@ loop-holds : tie.Need-loop-holds Inv-loop μ-loop
 loop-holds c =
     let s = c .before in
     let p = rows-shl (s .args .q .n) 32 (s .pre .0 .n-high) (omega arith) in
-    let z = split-none (s .args .q .table) (s .args .on) (s .args .off) in
+    let z = split-none (s .args .q) (s .args .on) (s .args .off) in
     let o = pow-pos (s .args .q .n) in
     (omega (arith, p, o), omega arith, omega (arith, z), rw p (s .pre .3))
 
@@ -40,8 +40,7 @@ weighted-requires : tie.Need-weighted-requires Inv-loop μ-loop
 weighted-requires c κs =
     let s = c .before .before .before in
     let l = c .before .loop .inv in
-    let m = rows-high (s .args .q .n) (s .pre .0 .n-high) in
-    (omega (arith, l .1, rows-shl (s .args .q .n) 32 (s .pre .0 .n-high) (omega arith)), s .pre .1, s .pre .2)
+    (s .pre .0, omega (arith, l .1, rows-shl (s .args .q .n) 32 (s .pre .0 .n-high) (omega arith)), s .pre .1, s .pre .2)
 
 loop-less : tie.Need-loop-less Inv-loop μ-loop
 loop-less c = search needs
@@ -66,7 +65,7 @@ returns c =
     let s = c .before .before .before in
     let l = c .before .loop in
     let e : l .high ≡ l .low + 1 = omega (arith, l .inv .0) in
-    (omega (arith, l .inv .0, l .inv .1, rows-shl (s .args .q .n) 32 (s .pre .0 .n-high) (omega arith)), l .inv .2, subst (λ (k : ℕ). s .args .number < split (s .args .q .table) (s .args .on) (s .args .off) k) e (l .inv .3))
+    (omega (arith, l .inv .0, l .inv .1, rows-shl (s .args .q .n) 32 (s .pre .0 .n-high) (omega arith)), l .inv .2, subst (λ (k : ℕ). s .args .number < split (s .args .q) (s .args .on) (s .args .off) k) e (l .inv .3))
 
 pub row-of-spec : {M : Type 1} → statement M
 row-of-spec =

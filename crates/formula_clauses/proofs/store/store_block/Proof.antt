@@ -10,13 +10,10 @@ use mathlib.Core.List.{List}
 use Rattle.cnf.specs.Cnf.{Formula}
 use Rattle.request.specs.declared.Request.{Request}
 use Rattle.formula_clauses.specs.declared.store.StoredBlock.{StoredBlock}
-use Rattle.formula_clauses.specs.Block.{clausesOf, blockFormula}
+use Rattle.formula_clauses.specs.declared.Block.{Block}
+use Rattle.formula_clauses.specs.Block.{blockClauses, Fits, blockOf, clausesOf, blockFormula}
 use Rattle.formula_clauses.specs.Store.{signs, BlockRoom}
-use Rattle.formula_clauses.specs.Store.Laws.{Some, block-some, block-there, block-taken, none-taken, block-stored, block-stays}
-use mathlib.Core.Path.{_≡_, sym, ap, _∙_}
-use mathlib.Core.List.{List}
-use Prim.Native.Nat.{ℕ}
-use lib.ListN.{length}
+use Rattle.formula_clauses.specs.Store.Laws.{Some, block-some, block-room, block-there, block-taken, none-taken, block-stored, block-stays}
 use borrow.Author.Needs.{needs}
 use Rattle.formula_clauses.proofs.store.store_block.Statement.{statement}
 use Rattle.formula_clauses.proofs.store.store_block.Tie as tie
@@ -46,27 +43,29 @@ module _ (c : tie.Then1) where
       c .before .before .block-sizes .ensures ∙ block-taken _ _ _ _ (some .none-refused)
       ∙ ap (λ (F : Formula). record { refusal = 0; clauses = length F; literals = length (flatten F) }) is
 
-  room : BlockRoom q b 0 0 (length literals) (length pairs)
-  room =
+  -- with room for them
+  room : {x : Block} → x ≡ blockOf q b → Fits (q .n) x → BlockRoom (q .n) (q .r) (q .m) x 0 0 (length literals) (length pairs)
+  room e fits =
       let t = none-taken _ _ _ _ _ (some .none-refused) in
       let l = ap (λ (s : StoredBlock). s .literals) sizes in
       let k = ap (λ (s : StoredBlock). s .clauses) sizes in
       let f = ap (λ (F : Formula). length (flatten F)) is in
       let g = ap length is in
-      record {
-        good = some .good;
-        there = some .there;
-        small = omega (arith, l, c .before .struct-known .given);
-        few = omega (arith, k, c .before .struct-known .given);
-        literals-long = omega (arith, f, t .literals-long);
-        pairs-long = omega (arith, g, t .pairs-long);
-      }
+      block-room q b 0 0 (length literals) (length pairs) (some .good) (some .there) e fits (omega (arith, l, c .before .struct-known .given))
+      (omega (arith, k, c .before .struct-known .given)) (omega (arith, f, t .literals-long)) (omega (arith, g, t .pairs-long))
 
 block-sizes-requires : tie.Need-block-sizes-requires
 block-sizes-requires c κs = search needs
 
+block-at-requires : tie.Need-block-at-requires
+block-at-requires c κs = (some c .good, some c .there)
+
 fill-block-requires : tie.Need-fill-block-requires
-fill-block-requires c κs = room (c .before .before)
+fill-block-requires c κs =
+    let f = c .before .before in
+    let t = f .before in
+    let e = ap (blockClauses (q t .n) (q t .r) (q t .m)) (f .block-at .ensures .0) in
+    (ap (λ (s : StoredBlock). s .clauses) (sizes t) ∙ ap length (sym e), room t (f .block-at .ensures .0) (f .block-at .ensures .1))
 
 same-length : tie.Need-same-length
 same-length c = search needs
@@ -76,14 +75,15 @@ same-length-2 c = search needs
 
 returns : tie.Need-returns
 returns c =
-    let t = c .before .before .before .before .before .before in
     let f = c .before .before .before .fill-block .ensures in
+    let k = c .before .before .before .before .before .before in
+    let t = k .before in
     let w = block-stored (q t) (b t) (literals t) (pairs t) (some t .none-refused) in
-    let e = is t in (
-      c .before .before .before .before .before .before .before .before .block-sizes .ensures,
+    let e = ap (blockClauses (q t .n) (q t .r) (q t .m)) (k .block-at .ensures .0) ∙ sym (is t) in (
+      t .before .before .block-sizes .ensures,
       (
-        f .1 .0 ∙ ap (λ (F : Formula). written (literals t) 0 (signs (flatten F))) (sym e) ∙ w .0,
-        f .1 .1 ∙ ap (λ (F : Formula). written (pairs t) 0 (pairsFrom 0 F)) (sym e) ∙ w .1,
+        f .1 .0 ∙ ap (λ (F : Formula). written (literals t) 0 (signs (flatten F))) e ∙ w .0,
+        f .1 .1 ∙ ap (λ (F : Formula). written (pairs t) 0 (pairsFrom 0 F)) e ∙ w .1,
       ),
     )
 
@@ -96,4 +96,4 @@ returns-2 c =
 pub store-block-spec : {M : Type 1} → statement M
 store-block-spec =
     tie.close
-    (tie.spec block-sizes-requires fill-block-requires same-length same-length-2 returns returns-2)
+    (tie.spec block-sizes-requires block-at-requires fill-block-requires same-length same-length-2 returns returns-2)

@@ -6,9 +6,9 @@ use lib.Pow.{pow-pos}
 use lib.Count.{ones}
 use borrow.Author.Needs.{needs}
 use Rattle.request.specs.Numbers.{rowsMost}
-use Rattle.rows.specs.Rows.Laws.{ones-below, on-past, one-shifted}
-use Rattle.rows.proofs.on_rows_below.Statement.{statement}
-use Rattle.rows.proofs.on_rows_below.Tie as tie
+use Rattle.rows.specs.Rows.Laws.{ones-below, set-past, one-shifted}
+use Rattle.rows.proofs.rows_below.Statement.{statement}
+use Rattle.rows.proofs.rows_below.Tie as tie
 
 shl-result : tie.Need-shl-result
 shl-result c = search needs
@@ -19,15 +19,15 @@ rem-result c = rw (one-shifted (c .before .args .k) rowsMost (omega arith)) (pow
 returns : tie.Need-returns
 returns c =
     let a = c .before .args in
-    ap (λ (n : ℕ). ones (a .table % n)) (one-shifted (a .k) rowsMost (omega arith)) ∙ ones-below (a .table) (a .k)
+    ap (λ (n : ℕ). ones (a .rows % n)) (one-shifted (a .k) rowsMost (omega arith)) ∙ ones-below (a .rows) (a .k)
 
-on-rows-requires : tie.Need-on-rows-requires
-on-rows-requires c κs = search needs
+rows-in-requires : tie.Need-rows-in-requires
+rows-in-requires c κs = search needs
 
 returns-2 : tie.Need-returns-2
 returns-2 c =
     let s = c .before .before in
-    c .on-rows .ensures ∙ sym (on-past (s .args .table) rowsMost (s .args .k) (s .fits .table .fits) (omega arith))
+    c .rows-in .ensures ∙ sym (set-past (s .args .rows) rowsMost (s .args .k) (s .fits .rows .fits) (omega arith))
 
-pub on-rows-below-spec : {M : Type 1} → statement M
-on-rows-below-spec = tie.close (tie.spec shl-result rem-result returns on-rows-requires returns-2)
+pub rows-below-spec : {M : Type 1} → statement M
+rows-below-spec = tie.close (tie.spec shl-result rem-result returns rows-in-requires returns-2)
