@@ -148,23 +148,25 @@ uint32_t nk_read_request(const uint8_t *text, size_t text_len, uint8_t *n, uint1
 uint32_t nk_sizes(uint8_t n, uint16_t table, uint16_t free_rows, uint8_t r, uint8_t m,
                   uint32_t *variables, uint32_t *clauses, uint32_t *literals);
 
-/* How large a buffer is enough for the file.
+/* The file's length, worked out without writing the file.
  *
- * 0: *size is at least the file's length and at most 8(T+C)+32, with T
- *    literals and C clauses in the file.
- * 2 to 5, 24: refused, *size stands.
+ * 0: *size is exactly the length that nk_write_file gives. With a buffer of that
+ *    many bytes writing never gives 6, with one byte less it always does.
+ * 2, 3, 24, 4, 5: refused, *size stands. 6 is never given, since no buffer is
+ *    lent.
  */
 uint32_t nk_file_size(uint8_t n, uint16_t table, uint16_t free_rows, uint8_t r, uint8_t m,
                       uint64_t *size);
 
-/* Writes the file into the first bytes of buffer[0 .. buffer_length). The
- * size that nk_file_size gives is enough, and so are 420,799 bytes for any
+/* Writes the file into the first bytes of buffer[0 .. buffer_length). The file
+ * needs exactly the bytes that nk_file_size gives; 420,799 are enough for any
  * request.
  *
  * 0: *size is the file's length; bytes of the buffer past it stand. The file
  *    is the text for a SAT solver: it is satisfiable exactly when some network
  *    of r switches does the job.
- * 2 to 6, 24: refused; nothing is written to the buffer, *size stands.
+ * 2, 3, 24, 4, 5, 6: refused; nothing is written to the buffer, *size stands.
+ *    6 is given exactly when buffer_length is below the file's length.
  */
 uint32_t nk_write_file(uint8_t n, uint16_t table, uint16_t free_rows, uint8_t r, uint8_t m,
                        uint8_t *buffer, size_t buffer_length, uint64_t *size);

@@ -134,19 +134,13 @@ void check_refused_size(Group& group, const Request& q, const std::string& who, 
     group.check(size == before, who, "refused, but size is written");
 }
 
-// The size of a good request: from the length to 8(T+C)+32. Gives the size.
-std::uint64_t check_size(Group& group, const Request& q, std::size_t length) {
-    unsigned V = 0, C = 0, T = 0;
-    second::counts(q, V, C, T);
-    const std::uint64_t bound = 8 * (std::uint64_t(T) + C) + 32;
+// "The size of file becomes exactly the length that writing returns".
+void check_size(Group& group, const Request& q, std::size_t length) {
     std::uint64_t size = random_numbers.next();
     const std::uint32_t answer = call_size(q, size);
     group.check(answer == 0, line_of(q), "size answers " + std::to_string(answer) + ", not 0");
-    group.check(size >= length, line_of(q),
-                "size " + std::to_string(size) + " is below the length " + std::to_string(length));
-    group.check(size <= bound, line_of(q),
-                "size " + std::to_string(size) + " is above " + std::to_string(bound));
-    return size;
+    group.check(size == length, line_of(q),
+                "size " + std::to_string(size) + ", not the length " + std::to_string(length));
 }
 
 // V, C and T.
@@ -220,18 +214,19 @@ void check_counts(Group& group, const Request& q) {
     group.check(every, line_of(q), "second: a variable that no clause names");
 }
 
-// All checks of a good request against the file that it must have.
+// All checks of a good request against the file that it must have. The size is
+// this file's length: a buffer of that many bytes or more is enough, one of a byte
+// less, or of still fewer, is not.
 void check_file(Group& group, const Request& q, const std::string& file) {
     const std::size_t length = file.size();
     check_sizes(group, q);
-    const std::uint64_t size = check_size(group, q, length);
+    check_size(group, q, length);
     check_written(group, q, file, length);
-    check_written(group, q, file, length + 1 + random_numbers.next() % 300);
+    check_written(group, q, file, length + 1);
+    check_written(group, q, file, length + 2 + random_numbers.below(length + 300));
     check_refused_write(group, q, line_of(q), 6, length - 1);
-    check_refused_write(group, q, line_of(q), 6, random_numbers.next() % length);
+    check_refused_write(group, q, line_of(q), 6, random_numbers.below(length));
     check_refused_write(group, q, line_of(q), 6, 0);
-    // A buffer of the size that the library itself asked for.
-    if (size >= length && size < 1000000) check_written(group, q, file, std::size_t(size));
 }
 
 // ---------------------------------------------------------------------------
@@ -329,7 +324,9 @@ void raise(Sizes& most, const Sizes& sizes) {
 // V, C and T of each n, r and M: every table without free rows for n up to 3,
 // every table for n up to 2, every number of on rows and of free rows for n = 3 and
 // 4; then every table without free rows for n = 4 with some r and M. The most of
-// any request, and of any with r up to 6, stand in host/nordkelch.h.
+// any request, and of any with r up to 6, stand in host/nordkelch.h. With n = 3 and
+// 4 also the size of the file: where a row's numbers get one digit more depends on
+// r, M and the rows before it.
 void group_sizes() {
     Group group("sizes of all requests");
     Sizes most, most_to_6;
@@ -354,7 +351,10 @@ void group_sizes() {
                 const unsigned rows = 1u << n;
                 for (unsigned on = 0; on <= rows; on++) {
                     for (unsigned free = 0; on + free <= rows; free++) {
-                        check(spread({n, (1u << on) - 1, r, m, ((1u << free) - 1) << on}));
+                        const unsigned free_rows = ((1u << free) - 1) << on;
+                        const Request q = spread({n, (1u << on) - 1, r, m, free_rows});
+                        check(q);
+                        check_size(group, q, second::file(q).size());
                     }
                 }
             }
@@ -453,7 +453,7 @@ void group_refused_mixtures() {
     group.finish();
 }
 
-// A call of nk_sizes and one of nk_file_size: the right number, and a size only
+// A call of nk_sizes and one of nk_file_size: the right number, and the size only
 // if it is taken.
 void check_taken_or_refused(Group& group, const Request& q) {
     const int number = second::refusal(q);
@@ -461,7 +461,7 @@ void check_taken_or_refused(Group& group, const Request& q) {
     if (number != 0) {
         check_refused_size(group, q, numbers_of(q), unsigned(number));
     } else {
-        check_size(group, q, 1);
+        check_size(group, q, second::file(q).size());
     }
 }
 
@@ -537,7 +537,8 @@ void group_p2() {
                   "-13 6 0\n-14 5 0\n");
 }
 
-// "P3 r = M = 7, n = 4, all on: 1,856 and 27,547", and T = 77,088.
+// "P3 r = M = 7, n = 4, all on: 1,856 and 27,547", T = 77,088, and a file of
+// 420,799 bytes; with one switch fewer of 311,213, as host/nordkelch.h has it.
 void group_p3() {
     Group group("P3");
     const Request q = {4, 0xFFFF, 7, 7};
@@ -549,14 +550,17 @@ void group_p3() {
     group.check(T == 77088, line_of(q), "second: T is not 77088");
     group.check(check_sizes(group, q) == Sizes{1856, 27547, 77088}, line_of(q), "other sizes");
 
-    // 8(T+C)+32 = 837112 bytes are enough.
-    const Writing w = write_inside(q, 837112);
-    const std::size_t length = std::size_t(std::min<std::uint64_t>(w.length, 837112));
+    const std::size_t length = 420799;
+    check_size(group, q, length);
+    check_size(group, {4, 0xFFFF, 6, 7}, 311213);
+    check_refused_write(group, q, line_of(q), 6, length - 1);
+    const Writing w = write_inside(q, length);
     const std::string file(w.after.begin() + std::ptrdiff_t(w.start),
                            w.after.begin() + std::ptrdiff_t(w.start + length));
     const auto lines = std::count(file.begin(), file.end(), '\n');
     const auto spaces = std::count(file.begin(), file.end(), ' ');
     group.check(w.answer == 0, line_of(q), "answer is not 0");
+    group.check(w.length == length, line_of(q), "the length is not the size");
     group.check(file.compare(0, head.size(), head) == 0, line_of(q), "another first line");
     group.check(lines == 27547 + 1, line_of(q), "not 27548 lines");
     // One space follows each literal, and three are in the first line.
@@ -706,16 +710,17 @@ void dump_file(const std::filesystem::path& folder, const Request& q) {
     const std::string name = std::to_string(q.n) + "_" + table_text(q) + "_" + std::to_string(q.r) +
                              "_" + std::to_string(q.m) + ".cnf";
     Group group(name);
+    const std::string want = second::file(q);
     std::uint64_t size = 0, length = 0;
     group.check(call_size(q, size) == 0, line_of(q), "no size");
-    Bytes buffer(std::size_t(std::min<std::uint64_t>(size, 1000000)) + 1);
+    group.check(size == want.size(), line_of(q), "size " + std::to_string(size));
+    Bytes buffer(want.size());
     group.check(call_write(q, buffer.data(), buffer.size(), length) == 0, line_of(q), "refused");
-    group.check(length <= buffer.size(), line_of(q), "length above the buffer");
-    const auto count = std::streamsize(std::min<std::uint64_t>(length, buffer.size()));
-    const std::string text(buffer.begin(), buffer.begin() + std::ptrdiff_t(count));
-    group.check(text == second::file(q), line_of(q), "not the file of the second implementation");
+    group.check(length == want.size(), line_of(q), "length " + std::to_string(length));
+    const std::string text(buffer.begin(), buffer.end());
+    group.check(text == want, line_of(q), "not the file of the second implementation");
     std::ofstream out(folder / name, std::ios::binary);
-    out.write(text.data(), count);
+    out.write(text.data(), std::streamsize(text.size()));
     out.close();
     group.check(bool(out), line_of(q), "the file cannot be written");
     group.finish();

@@ -2,7 +2,7 @@
 use mathlib.Core.Path.{_≡_}
 use mathlib.Core.Bool.{cond}
 use mathlib.Core.List.{List, [], _∷_, _++_}
-use Prim.Native.Nat.{ℕ, _+_, _*_, _≤_}
+use Prim.Native.Nat.{ℕ}
 use lib.Dec.{eqb, ltb}
 use lib.ListN.{length}
 use Rattle.prelude.specs.Written.{written}
@@ -59,11 +59,6 @@ sizeValues q = cond (eqb (refusalOf q) 0) (length (fileText q) ∷ []) []
 -- the answer of the size
 unfoldable pub sizeAnswer : Request → Answer
 sizeAnswer q = answerBy (refusalOf q) (length (fileText q))
-
--- "The result is at least the length and at most 8·(T+C)+32"
-abbrev pub Bounded : Request → Answer → Type 0
-Bounded q (Bytes k) = (length (fileText q) ≤ k) × (k ≤ 8 * (literalCount q + clauseCount q) + 32)
-Bounded q (Refused x) = Unit {0}
 
 -- "Writing the file: 6 if the buffer is shorter than the file", after the refusals of the request; 0 where it is written
 unfoldable pub writeNumber : Request → ℕ → ℕ

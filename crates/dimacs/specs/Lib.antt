@@ -2,4 +2,5 @@
 -- Assumes nothing.
 pub mod Block
 pub mod File
+pub mod Length
 pub mod Means

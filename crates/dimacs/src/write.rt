@@ -7,18 +7,16 @@ use crate::BLOCK_LITERALS;
 use crate::BLOCK_PAIRS;
 use crate::lines;
 use crate::size;
-use formula::Sizes;
 use request::Request;
 ghost use mathlib.Core.Path.{_≡_};
 ghost use Prim.Native.Nat.{_+_, _≤_};
-ghost use lib.Dec.{leb};
 ghost use lib.ListN.{length};
 ghost use Rattle.prelude.specs.Written.{written};
 ghost use Rattle.prelude.specs.Written.Laws.{Wrote};
 ghost use Rattle.request.specs.Numbers.{Good};
 ghost use Rattle.formula.specs.Formula.{formulaOf};
 ghost use Rattle.dimacs.specs.Block.{Within, blockText};
-ghost use Rattle.dimacs.specs.File.{numberOf, valuesOf, Counted, headText, bodyText, fileText, writeNumber, writeValues, writeAnswer, fileWritten};
+ghost use Rattle.dimacs.specs.File.{numberOf, valuesOf, headText, bodyText, fileText, writeNumber, writeValues, writeAnswer, fileWritten};
 ghost use Rattle.dimacs.specs.Means.{Meaning};
 
 // Writes the first line at the buffer's start.
@@ -78,17 +76,6 @@ fn put_body(q: Request, buffer: &mut [u8], at: usize) -> usize
     to
 }
 
-// Whether the file has room in so many bytes. Its length is worked out only where there is not room for every file of these sizes.
-fn has_room(q: Request, sizes: Sizes, room: usize) -> bool
-    requires { ⌜ Counted q sizes ⌝ }
-    ensures { λ b. ⌜ b ≡ leb (length (fileText q)) room ⌝ }
-{
-    if 8 * (sizes.literals as usize + sizes.clauses as usize) + 32 <= room {
-        return true;
-    }
-    size::file_length(q, sizes) <= room
-}
-
 // Writes the file: its length, or a refusal, which writes nothing.
 pub fn write_file(q: Request, buffer: &mut [u8]) -> Answer
     ensures answer { λ x. ⌜ x ≡ writeAnswer q (length (now (buffer .entry))) ⌝ }
@@ -101,7 +88,7 @@ pub fn write_file(q: Request, buffer: &mut [u8]) -> Answer
     if sizes.refusal != 0 {
         return Answer::Refused(sizes.refusal);
     }
-    if !has_room(q, sizes, buffer.len()) {
+    if buffer.len() < size::file_length(q, sizes) {
         return Answer::Refused(6);
     }
     let at = put_head(buffer, sizes.variables, sizes.clauses);

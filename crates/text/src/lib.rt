@@ -1,10 +1,9 @@
-// How long decimal and signed numbers are as text, in bytes. What they, literals and clauses are as text is in specs/.
+// How many digits a number has, and the absolute value of a signed one. What numbers, literals and clauses are as text is in specs/.
 ghost use mathlib.Core.Path.{_≡_};
 ghost use Prim.Native.Nat.{_≤_};
 ghost use lib.ListN.{length};
 ghost use Rattle.text.specs.Decimal.{decimal};
 ghost use Rattle.prelude.specs.Signed.{variable};
-ghost use Rattle.text.specs.Text.{numberText};
 
 // The number of digits of x.
 pub fn decimal_length(x: u32) -> usize
@@ -45,15 +44,4 @@ pub fn absolute(x: i32) -> u32
     ensures { λ k. ⌜ k ≡ variable x ⌝ }
 {
     if x < 0 { (-1 - x) as u32 + 1 } else { x as u32 }
-}
-
-// The length of a signed number with the space after it.
-pub fn number_length(x: i32) -> usize
-    ensures { λ k. ⌜ (k ≡ length (numberText x)) × (k ≤ 12) ⌝ }
-{
-    if x < 0 {
-        decimal_length(absolute(x)) + 2
-    } else {
-        decimal_length(absolute(x)) + 1
-    }
 }

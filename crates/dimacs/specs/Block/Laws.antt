@@ -1,24 +1,24 @@
 -- Laws of lines of signed numbers and of blocks of them. Assumes nothing.
 use mathlib.Core.Path.{_≡_, refl, sym, ap, ap₂, _∙_}
-use mathlib.Core.List.{List, [], _∷_, _++_, map-append}
-use Prim.Native.Nat.{ℕ, zero, suc, _+_, _*_, _≤_, _<_}
+use mathlib.Core.List.{List, [], _∷_, _++_}
+use Prim.Native.Nat.{ℕ, zero, suc, _+_, _≤_, _<_}
 use native.Mathlib.Omega.{arith}
 use lib.IntN.{ℤ}
 use lib.IntN as Z
 use native.Mathlib.Numerals.{add-one}
 use lib.ListN.{length, getD, take, drop, length-append, length-drop}
-use lib.Seq.{getD-drop, take-take, take-length, take-append-seam}
+use lib.Seq.{getD-drop, take-take, take-length}
 use Rattle.prelude.specs.Blocks.{each, flatten, pairsFrom}
 use Rattle.prelude.specs.Blocks.Laws.{each-more, each-room, each-same, flatten-room, pairs-length}
 use Rattle.prelude.specs.Lists.{Each}
 use Rattle.prelude.specs.Lists.Laws.{each-out}
 use Rattle.prelude.specs.Written.{written}
-use Rattle.cnf.specs.Cnf.{Clause, Formula, signedOf}
+use Rattle.cnf.specs.Cnf.{Clause, Formula}
 use Rattle.formula.specs.Formula.Range.{ClauseIn}
 use Rattle.formula_clauses.specs.Store.{signs}
 use Rattle.formula_clauses.specs.Store.Laws.{signs-length, stored-offset, stored-length, stored-read}
 use Rattle.text.specs.Text.{numberText, numbersText, lineText}
-use Rattle.text.specs.Text.Laws.{numbers-append, numbers-more, numbers-none, numbers-room, signed-texts, line-text, line-length}
+use Rattle.text.specs.Text.Laws.{numbers-more, numbers-room, signed-texts, line-text}
 use Rattle.dimacs.specs.File.{bodyText}
 use Rattle.dimacs.specs.File.Laws.{body-none, body-more}
 use Rattle.dimacs.specs.Block.{numbersLine, lineOf, blockText, Within}
@@ -79,30 +79,11 @@ body-each F (suc k) h =
     ap (λ (l : List ℕ). l ++ lineText (getD F k [])) (body-each F k (omega arith)) ∙ sym (body-more F k (omega arith))
     ∙ ap (λ (j : ℕ). bodyText (take j F)) (add-one k)
 
--- the length of the lines of clauses: that of their numbers, and two for each clause
-body-numbers : (top : ℕ) (F : Formula) → Each (ClauseIn top) F
-    → length (bodyText F) ≡ length (numbersText (signs (flatten F))) + 2 * length F
-unfolding bodyText flatten
-body-numbers top [] h = let e = ap length numbers-none in omega arith
-body-numbers top (c ∷ F) h =
-    let n = length-append (lineText c) (bodyText F) in
-    let m = ap (λ (l : List ℤ). length (numbersText l)) (map-append signedOf c (flatten F))
-    ∙ ap length (numbers-append (signs c) (signs (flatten F)))
-    ∙ length-append (numbersText (signs c)) (numbersText (signs (flatten F))) in
-    let l = line-length c in
-    let a = ap length (signed-texts top c (h .0)) in
-    let b = body-numbers top F (h .1) in
-    omega arith
-
 -- what is written at a list's start
 module _ {A : Type 0} (l xs : List A) where
   start-long : length xs ≤ length (written l 0 xs)
   unfolding written
   start-long = let e = length-append xs (drop (0 + length xs) l) in omega arith
-
-  start-is : take (length xs) (written l 0 xs) ≡ xs
-  unfolding written
-  start-is = take-append-seam xs (drop (0 + length xs) l)
 
 -- the clauses of F, written at the start of two lists
 module _ (F : Formula) (old : List ℤ) (before : List ℕ) where
@@ -140,9 +121,3 @@ module _ (F : Formula) (old : List ℤ) (before : List ℕ) where
     block-body =
         each-same (length F) (lineOf literals pairs) (λ i. lineText (getD F i [])) line-is ∙ body-each F (length F) (omega arith)
         ∙ ap bodyText (take-length F)
-
-    -- and so long
-    pub block-size : length (numbersText (take (length (flatten F)) literals)) + 2 * length F ≡ length (bodyText F)
-    block-size =
-        ap (λ (k : ℕ). length (numbersText (take k literals)) + 2 * length F) (sym (signs-length (flatten F)))
-        ∙ ap (λ (l : List ℤ). length (numbersText l) + 2 * length F) (start-is old (signs (flatten F))) ∙ sym (body-numbers top F low)

@@ -8,7 +8,7 @@ use native.Mathlib.Numerals.{add-one}
 use native.Mathlib.Omega.{arith}
 use lib.Dec.{T, leb, leb→le}
 use lib.IntN.{ℤ}
-use lib.ListN.{length, take, length-append}
+use lib.ListN.{length, length-append}
 use Rattle.prelude.specs.Blocks.{flatten, pairsFrom}
 use Rattle.prelude.specs.Finite.{below, below-at}
 use Rattle.prelude.specs.Lists.{Each}
@@ -29,11 +29,10 @@ use Rattle.formula_clauses.specs.Block.{blockCount, blockLiterals, blockOf, cla
 use Rattle.formula_clauses.specs.Block.Laws.{block-length, block-literals, blocks-all, block-each, among}
 use Rattle.formula_clauses.specs.Store.{signs, blockSizes, blockLiteralsIn, blockPairsIn}
 use Rattle.formula_clauses.specs.Store.Laws.{room-none, block-there, block-taken, block-stored}
-use Rattle.text.specs.Text.{numbersText}
 use Rattle.dimacs.specs.File.{bodyText}
 use Rattle.dimacs.specs.File.Laws.{body-append, body-none}
 use Rattle.dimacs.specs.Block.{blockText, literalsRoom, clausesRoom, Within, Loaded}
-use Rattle.dimacs.specs.Block.Laws.{literals-long, block-within, block-body, block-size}
+use Rattle.dimacs.specs.Block.Laws.{block-within, block-body}
 
 -- whether a block for n inputs, r switches and the series bound m has room; its row and where its variables begin do not matter
 abbrev small : ℕ → ℕ → ℕ → Block → Bool
@@ -112,19 +111,6 @@ module _ (q : Request) (good : Good q) (b : ℕ) (there : b ≤ 2 ^ (q .n)) wher
     pub loaded-text : blockText (x .clauses) l p ≡ bodyText (clausesOf q b)
     loaded-text =
         rw (stored .clauses-are, stored .literals-hold, stored .pairs-hold) (block-body (clausesOf q b) old before (variableCount q) block-in)
-
-    -- they have room in the lists
-    pub loaded-long : x .literals ≤ length l
-    loaded-long = rw (stored .literals-are, stored .literals-hold) (literals-long (clausesOf q b) old before)
-
-    -- few enough
-    pub loaded-few : (x .clauses ≤ clausesRoom) × (x .literals ≤ literalsRoom)
-    loaded-few = rw (stored .clauses-are, stored .literals-are) block-small
-
-    -- and so long
-    pub loaded-size : length (numbersText (take (x .literals) l)) + 2 * x .clauses ≡ length (bodyText (clausesOf q b))
-    loaded-size =
-        rw (stored .clauses-are, stored .literals-are, stored .literals-hold) (block-size (clausesOf q b) old before (variableCount q) block-in)
 
   -- the lines of the blocks below the next
   pub below-text : bodyText (blocksBelow q (b + 1)) ≡ bodyText (blocksBelow q b) ++ bodyText (clausesOf q b)

@@ -2,34 +2,28 @@
 use mathlib.Core.Path.{_≡_, refl, sym, ap, ap₂, _∙_}
 use mathlib.Core.Bool.{false, cond}
 use mathlib.Core.List.{List, [], _∷_, _++_, append-assoc, append-nil}
-use Prim.Native.Nat.{ℕ, _+_, _*_, _≤_, _<_}
+use Prim.Native.Nat.{ℕ, _+_, _≤_, _<_}
 use native.Mathlib.Numerals.{add-one}
 use native.Mathlib.Omega.{arith}
-use lib.Dec.{eqb}
+use lib.Dec.{eqb, ltb}
 use lib.ListN.{length, take, set, getD, length-append, length-set}
 use lib.Seq.{sets, length-sets, sets-eq, take-suc}
-use borrow.Author.Tests.{lt-ltb, le-ltb, ne-eqb}
+use borrow.Author.Tests.{lt-ltb, le-ltb, eq-eqb, ne-eqb}
 use mathlib.Core.Logic.{⊎-elim}
 use Rattle.prelude.specs.Tests.{eq?}
-use Rattle.prelude.specs.Blocks.{flatten}
-use Rattle.prelude.specs.Lists.{Each}
 use Rattle.prelude.specs.Written.{written}
 use Rattle.prelude.specs.Written.Laws.{Wrote, wrote-one, wrote-next}
 use Rattle.cnf.specs.Cnf.{Clause, Formula}
-use Rattle.cnf.specs.declared.Literal.{Literal}
 use Rattle.request.specs.Numbers.{refusalOf}
 use Rattle.request.specs.Numbers.Laws.{refusal-good, good-refusal}
 use Rattle.request.specs.declared.Request.{Request}
 use Rattle.formula.specs.Formula.{formulaOf}
-use Rattle.formula.specs.Count.{variableCount, sizesOf}
-use Rattle.formula.specs.Count.Laws.{clause-count, literal-count, sizes-refusal as count-refusal}
-use Rattle.formula.specs.Formula.Range.{ClauseIn, range, variables-most}
+use Rattle.formula.specs.Count.{sizesOf}
+use Rattle.formula.specs.Count.Laws.{clause-count, sizes-refusal as count-refusal}
 use Rattle.formula.specs.declared.Sizes.{Sizes}
 use Rattle.text.specs.Decimal.{decimal}
-use Rattle.text.specs.Decimal.Laws.{length-high}
-use Rattle.text.specs.Text.{literalsText, lineText}
-use Rattle.text.specs.Text.Laws.{literals-none, literals-length, line-length, literal-most}
-use Rattle.dimacs.specs.File.{numberOf, valuesOf, headText, bodyText, fileText, answerBy, Counted, sizeValues, sizeAnswer, Bounded, writeNumber, writeValues, writeAnswer, fileWritten}
+use Rattle.text.specs.Text.{lineText}
+use Rattle.dimacs.specs.File.{numberOf, valuesOf, headText, bodyText, fileText, answerBy, Counted, sizeValues, sizeAnswer, writeNumber, writeValues, writeAnswer, fileWritten}
 use Rattle.dimacs.specs.declared.Answer.{Answer}
 use Rattle.dimacs.specs.declared.Answer.the-variants.{Bytes, Refused}
 
@@ -86,29 +80,6 @@ body-more f k h =
     ap (λ (j : ℕ). bodyText (take j f)) (add-one k) ∙ ap bodyText (take-suc f k [] h)
     ∙ body-append (take k f) (getD f k [] ∷ []) ∙ ap (λ (l : List ℕ). bodyText (take k f) ++ l) (body-one (getD f k []))
 
-module _ (top : ℕ) (few : top < 100000) where
-  -- literals have at most seven bytes each: a minus, five digits and a space
-  literals-most : (ls : List Literal) → ClauseIn top ls → length (literalsText ls) ≤ 7 * length ls
-  literals-most [] h = let n = ap length literals-none in omega arith
-  literals-most (l ∷ ls) h =
-      let n = literals-length l ls in
-      let a = literal-most l in
-      let d = length-high 4 (l .variable) (omega arith) in
-      let b = literals-most ls (h .1) in
-      omega arith
-
-  -- and a line two more
-  body-most : (f : Formula) → Each (ClauseIn top) f → length (bodyText f) ≤ 7 * length (flatten f) + 2 * length f
-  unfolding bodyText flatten
-  body-most [] h = omega arith
-  body-most (c ∷ f) h =
-      let n = length-append (lineText c) (bodyText f) in
-      let m = length-append c (flatten f) in
-      let l = line-length c in
-      let a = literals-most c (h .0) in
-      let b = body-most f (h .1) in
-      omega arith
-
 -- the refusal among the sizes is the request's
 pub sizes-refusal : (q : Request) {x : Sizes} → x ≡ sizesOf q → x .refusal ≡ refusalOf q
 sizes-refusal q e = ap (λ (x : Sizes). x .refusal) e ∙ count-refusal q
@@ -142,23 +113,6 @@ module _ (q : Request) {x : Sizes} (counted : Counted q x) where
   pub size-good : {k : ℕ} → k ≡ length (fileText q) → Bytes k ≡ sizeAnswer q
   unfolding sizeAnswer
   size-good e = rw (good-refusal q (counted .good)) (ap Bytes e)
-
-  -- "at most 8·(T+C)+32"
-  pub file-most : x .variables < 4294967296 → x .clauses < 4294967296 → length (fileText q) ≤ 8 * (x .literals + x .clauses) + 32
-  file-most h k =
-      let g = counted .good in
-      let v = variables-most q g in
-      let b = body-most (variableCount q) (omega arith) (formulaOf q) (range q) in
-      let n = file-length refl refl in
-      let a = head-length (x .variables) (x .clauses) in
-      let d = length-high 9 (x .variables) (omega arith) in
-      let e = length-high 9 (x .clauses) (omega arith) in
-      let c = clause-count q in
-      let t = literal-count q in
-      omega (arith, counted .clauses-are, counted .literals-are)
-
-  pub size-bounded : {k : ℕ} → x .variables < 4294967296 → x .clauses < 4294967296 → k ≡ length (fileText q) → Bounded q (Bytes k)
-  size-bounded h k e = let m = file-most h k in (omega arith, omega (arith, counted .clauses-are, counted .literals-are))
 
   -- the answer where the buffer is shorter than the file
   pub write-short : {room : ℕ} → room < length (fileText q) → Refused 6 ≡ writeAnswer q room
@@ -236,3 +190,29 @@ module _ (q : Request) where
   pub write-values : (room : ℕ) → valuesOf (writeAnswer q room) ≡ writeValues q room
   unfolding writeAnswer writeValues
   write-values room = values-is (writeNumber q room) (length (fileText q))
+
+-- "The size of file becomes exactly the length that writing returns": with the size's answer s, a buffer of any length is refused by 6
+-- where it is shorter than s, and else takes the file, whose length is s
+module _ (q : Request) (s : ℕ) (size : sizeValues q ≡ s ∷ []) where
+  sized : (refusalOf q ≡ 0) × (length (fileText q) ≡ s)
+  unfolding sizeValues
+  sized =
+      ⊎-elim
+      (λ (z : refusalOf q ≡ 0). (z, ap (λ (l : List ℕ). getD l 0 0) (rw (eq-eqb (refusalOf q) 0 z) at size)))
+      (λ (d : refusalOf q ≡ 0 → ⊥). absurd (let e = ap length (rw (ne-eqb (refusalOf q) 0 d) at size) in omega arith))
+      (eq? (refusalOf q) 0)
+
+  pub size-exact : (room : ℕ) → writeNumber q room ≡ cond (ltb room s) 6 0
+  unfolding writeNumber
+  size-exact room = rw (sized .0, sized .1)
+
+  -- so a buffer of s bytes is never refused by 6
+  pub size-enough : (writeNumber q s ≡ 0) × (writeValues q s ≡ s ∷ [])
+  unfolding writeValues
+  size-enough =
+      let e : writeNumber q s ≡ 0 = size-exact s ∙ rw (le-ltb s s (omega arith)) in
+      (e, rw (e, sized .1))
+
+  -- and one of a byte less always is
+  pub size-least : (room : ℕ) → room + 1 ≡ s → writeNumber q room ≡ 6
+  size-least room e = size-exact room ∙ rw (lt-ltb room s (omega arith))

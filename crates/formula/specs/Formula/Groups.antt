@@ -36,7 +36,7 @@ unfolding flatten
 triple-literals N i j k = refl
 
 -- group 1 as planes of triples
-transitivity-planes : (N : ℕ) → transitivity N ≡ each N (triplePlane 3 N (triple N))
+pub transitivity-planes : (N : ℕ) → transitivity N ≡ each N (triplePlane 3 N (triple N))
 unfolding transitivity
 transitivity-planes N = for-zero N (triplePlane 3 N (triple N))
 
@@ -60,11 +60,11 @@ transitivity-is N number i j k clause t e =
     ∙ triple-planes-at 3 N (number / 3) i j k (number % 3) (triple N) [] (λ i j k. refl) t (omega arith))
 
 -- group 2, the clause of two literals v and w
-abbrev notBoth : ℕ → ℕ → ℕ → ℕ → ℕ → List (List Literal)
+abbrev pub notBoth : ℕ → ℕ → ℕ → ℕ → ℕ → List (List Literal)
 notBoth n N s v w = (neg (L n N s v) ∷ neg (L n N s w) ∷ []) ∷ []
 
 -- the clauses of a switch as one long clause and rows of pairs
-choice-rows : (n N s : ℕ)
+pub choice-rows : (n N s : ℕ)
     → choice n N s ≡ each (2 * n) (λ v. pos (L n N s v) ∷ []) ∷ each (2 * n) (pairRow 1 (2 * n) (notBoth n N s))
 unfolding choice
 choice-rows n N s =

@@ -30,11 +30,11 @@ pub same-side-second : (x a b part : ℕ) (u v w : Literal) → part ≡ 1 → u
 same-side-second x a b part u v w e f g h = rw (e, f, g, h)
 
 -- the two clauses for terminals i and j
-abbrev netPair : ℕ → ℕ → ℕ → ℕ → List (List Literal)
+abbrev pub netPair : ℕ → ℕ → ℕ → ℕ → List (List Literal)
 netPair N B i j = sameSide (X N i j) (S B i) (S B j)
 
 -- the clauses for pairs of terminals as rows of pairs
-net-sides-rows : (N B : ℕ) → netSides N B ≡ each N (pairRow 2 N (netPair N B))
+pub net-sides-rows : (N B : ℕ) → netSides N B ≡ each N (pairRow 2 N (netPair N B))
 unfolding netSides
 net-sides-rows N B = for-zero N (pairRow 2 N (netPair N B))
 
@@ -54,15 +54,15 @@ net-side-is N B number i j x a b clause p f g h e =
     ∙ pair-rows-at 2 N (number / 2) i j (number % 2) (netPair N B) [] (λ i j. refl) p (omega arith)))
 
 -- the two clauses for switch s with literal v
-abbrev switchPair : ℕ → ℕ → ℕ → ℕ → ℕ → List (List Literal)
+abbrev pub switchPair : ℕ → ℕ → ℕ → ℕ → ℕ → List (List Literal)
 switchPair n N B s v = sameSide (L n N s v) (S B (2 * s + 1)) (S B (2 * s + 2))
 
 -- the clauses of switch s, over the literals that are 1 on row k
-abbrev switchBlock : ℕ → ℕ → ℕ → ℕ → ℕ → List (List Literal)
+abbrev pub switchBlock : ℕ → ℕ → ℕ → ℕ → ℕ → List (List Literal)
 switchBlock n N B k s = each (2 * n) (chosenBlock (hasValue n k true) 2 (switchPair n N B s) (λ v. refl))
 
 -- the clauses for switches as blocks
-switch-sides-blocks : (n N r B k : ℕ) → switchSides n N r B (literalOn n k) ≡ each r (switchBlock n N B k)
+pub switch-sides-blocks : (n N r B k : ℕ) → switchSides n N r B (literalOn n k) ≡ each r (switchBlock n N B k)
 unfolding switchSides
 switch-sides-blocks n N r B k =
     for-zero r (λ s. for 0 (2 * n) (λ v. cond (literalOn n k v) (switchPair n N B s v) []))

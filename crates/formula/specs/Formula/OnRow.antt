@@ -116,7 +116,7 @@ follows c x i g h k l (inr (b, e)) =
     }
 
 -- "W(t,1)..W(t,2r) Z(t)" is a run of variables
-some-clause : (r B t : ℕ) → for 1 (2 * r) (λ e. pos (W r B t e) ∷ []) ++ (pos (Z r B t) ∷ []) ≡ run (W r B t 1) (2 * r + 1)
+pub some-clause : (r B t : ℕ) → for 1 (2 * r) (λ e. pos (W r B t e) ∷ []) ++ (pos (Z r B t) ∷ []) ≡ run (W r B t 1) (2 * r + 1)
 unfolding run W
 some-clause r B t =
     for-last (2 * r) (λ e. pos (W r B t e) ∷ [])
@@ -145,11 +145,11 @@ closedClause n r B t e v = neg (W r B t e) ∷ neg (L n (terminals r) (switchOf 
 
 module _ (n r m B k : ℕ) where
   -- the clauses of one step and one end
-  abbrev closedEnd : ℕ → ℕ → Formula
+  abbrev pub closedEnd : ℕ → ℕ → Formula
   closedEnd t e = for 0 (2 * n) (λ v. cond (literalOn n k v) [] (closedClause n r B t e v ∷ []))
 
   -- from 0 on is from the first on
-  zero-start : (t e : ℕ) → closedEnd t e ≡ each (2 * n) (unless (literalOn n k) (closedClause n r B t e))
+  pub zero-start : (t e : ℕ) → closedEnd t e ≡ each (2 * n) (unless (literalOn n k) (closedClause n r B t e))
   zero-start t e = each-same (2 * n) _ _ (λ i l. let z : 0 + i ≡ i = omega arith in ap (unless (literalOn n k) (closedClause n r B t e)) z)
 
   closed-end-length : (t e : ℕ) → length (closedEnd t e) ≡ n
@@ -192,7 +192,7 @@ abbrev pub firstClause : ℕ → ℕ → ℕ → Clause
 firstClause r B e = neg (W r B 1 e) ∷ pos (X (terminals r) source e) ∷ []
 
 -- the stop is one end more
-first-is : (r B : ℕ) → firstStep r B ≡ for 1 (2 * r + 1) (λ e. firstClause r B e ∷ [])
+pub first-is : (r B : ℕ) → firstStep r B ≡ for 1 (2 * r + 1) (λ e. firstClause r B e ∷ [])
 unfolding firstStep
 first-is r B = for-last (2 * r) (λ e. firstClause r B e ∷ [])
 
@@ -216,11 +216,11 @@ linkClause r B t e g = neg (W r B t e) ∷ neg (W r B (t + 1) g) ∷ pos (X (ter
 
 module _ (r m B : ℕ) where
   -- the clauses of one step and one end
-  abbrev linkEnd : ℕ → ℕ → Formula
+  abbrev pub linkEnd : ℕ → ℕ → Formula
   linkEnd t e = for 1 (2 * r) (λ g. cond (eqb g (other e)) [] (linkClause r B t e g ∷ [])) ++ (linkClause r B t e (2 * r + 1) ∷ [])
 
   -- the stop is one end more
-  link-end-is : (t e : ℕ) → 1 ≤ e → e ≤ 2 * r
+  pub link-end-is : (t e : ℕ) → 1 ≤ e → e ≤ 2 * r
       → linkEnd t e ≡ each (2 * r + 1) (unless (λ i. eqb (1 + i) (other e)) (λ i. linkClause r B t e (1 + i)))
   link-end-is t e h l =
       ap (λ (F : Formula). for 1 (2 * r) (λ g. cond (eqb g (other e)) [] (linkClause r B t e g ∷ [])) ++ F)

@@ -31,12 +31,12 @@ cast-result c = search needs
 returns : tie.Need-returns
 returns c =
     let f = c .before .before .before in
-    handed _ (f .before .args .size .now) _ _ (c .before .k .given .1) (f .file-size .ensures .1 .1 .0) (f .file-size .ensures .1 .1 .1)
+    handed _ (f .before .args .size .now) _ _ (c .before .k .given .1) (f .file-size .ensures .1 .0) (f .file-size .ensures .1 .1)
 
 returns-2 : tie.Need-returns-2
 returns-2 c =
     let f = c .before .before .before in
-    handed _ (f .before .args .size .now) _ _ (c .before .x .given .1) (f .file-size .ensures .1 .1 .0) (f .file-size .ensures .1 .1 .1)
+    handed _ (f .before .args .size .now) _ _ (c .before .x .given .1) (f .file-size .ensures .1 .0) (f .file-size .ensures .1 .1)
 
 pub nk-file-size-spec : {M : Type 1} → statement M
 nk-file-size-spec =

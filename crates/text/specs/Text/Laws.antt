@@ -51,15 +51,6 @@ pub signed-length : (b : Bool) (x : ℕ) → length (signedText b x) ≡ cond b 
 signed-length true x = length-append (45 ∷ []) (decimal x ++ (32 ∷ [])) ∙ ap (λ (n : ℕ). 1 + n) (number-length x)
 signed-length false x = number-length x ∙ sym (zero-add _)
 
--- at most two bytes more than the digits
-signed-most : (b : Bool) (x : ℕ) → length (signedText b x) ≤ length (decimal x) + 2
-signed-most true x = let e = signed-length true x in omega arith
-signed-most false x = let e = signed-length false x in omega arith
-
-pub literal-most : (l : Literal) → length (literalText l) ≤ length (decimal (l .variable)) + 2
-unfolding literalText
-literal-most l = signed-most (l .negative) (l .variable)
-
 -- a signed number by its sign and its absolute value
 pub number-text : (x : ℤ) → numberText x ≡ signedText (isNegative x) (variable x)
 unfolding numberText

@@ -1,11 +1,10 @@
 -- `write::write_file` meets its contract: the lines are written where the head ended, in a buffer that has room for both; another buffer
 -- stays; with the answer come its meaning, its number and its values. Assumes nothing.
-use mathlib.Core.Path.{_≡_, refl, sym, ap, _∙_}
-use Prim.Native.Nat.{ℕ, _≤_}
+use mathlib.Core.Path.{_≡_, refl, ap, _∙_}
+use Prim.Native.Nat.{ℕ, _≤_, _<_}
 use native.Mathlib.Omega.{arith}
 use lib.ListN.{length}
 use borrow.Author.Needs.{needs}
-use borrow.Author.Tests.{leb-true, leb-false, not-true, not-false}
 use Rattle.request.specs.declared.Request.{Request}
 use Rattle.dimacs.specs.declared.Answer.{Answer}
 use Rattle.dimacs.specs.File.{numberOf, valuesOf, Counted, fileText, writeNumber, writeValues, writeAnswer}
@@ -34,15 +33,15 @@ returns c =
 counted : (c : tie.Else1) → Counted (c .before .before .before .before .args .q) (c .before .before .count .result)
 counted c = sizes-counted (c .before .before .before .before .args .q) (c .before .before .count .ensures) (c .if1 .left)
 
-has-room-requires : tie.Need-has-room-requires
-has-room-requires c κs = counted c
+file-length-requires : tie.Need-file-length-requires
+file-length-requires c κs = counted c
 
 returns-2 : tie.Need-returns-2
 returns-2 c =
     let l = c .before .before in
     let a = l .before .before .before .before .args in
     let g = counted l in
-    let h = leb-false _ _ (sym (c .before .has-room .ensures) ∙ not-true _ (c .if2 .taken)) in
+    let h : length (a .buffer .now) < length (fileText (a .q)) = omega (arith, c .before .file-length .ensures, c .if2 .taken) in
     let w = write-short (a .q) g {room = length (a .buffer .now)} h in
     (w, (file-short (a .q) g (a .buffer .now) h, answered (a .q) _ _ w))
 
@@ -51,7 +50,7 @@ abbrev start : tie.Else2 → tie.Start
 start c = c .before .before .before .before .before .before
 
 room : (c : tie.Else2) → length (fileText (start c .args .q)) ≤ length (start c .args .buffer .now)
-room c = leb-true _ _ (sym (c .before .has-room .ensures) ∙ not-false _ (c .if2 .left))
+room c = omega (arith, c .before .file-length .ensures, c .if2 .left)
 
 put-head-requires : tie.Need-put-head-requires
 put-head-requires c κs =
@@ -92,7 +91,7 @@ write-file-spec =
     (tie.spec
     count-requires
     returns
-    has-room-requires
+    file-length-requires
     returns-2
     put-head-requires
     put-body-requires
