@@ -2,5 +2,4 @@
 -- Assumes nothing.
 pub mod Block
 pub mod File
-pub mod Length
 pub mod Means

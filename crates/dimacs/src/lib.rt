@@ -1,6 +1,5 @@
 // The clause file (document 01, "The file is ..", "Size of file", "Writing the file"): its size, and writing it. What the file is,
 // and what both answer, is in specs/.
-mod lengths;
 mod lines;
 pub mod size;
 pub mod write;

@@ -14,7 +14,7 @@ use Rattle.prelude.specs.Tests.{eq?}
 use Rattle.prelude.specs.Written.{written}
 use Rattle.prelude.specs.Written.Laws.{Wrote, wrote-one, wrote-next}
 use Rattle.cnf.specs.Cnf.{Clause, Formula}
-use Rattle.request.specs.Numbers.{refusalOf}
+use Rattle.request.specs.Numbers.{Good, refusalOf}
 use Rattle.request.specs.Numbers.Laws.{refusal-good, good-refusal}
 use Rattle.request.specs.declared.Request.{Request}
 use Rattle.formula.specs.Formula.{formulaOf}
@@ -22,7 +22,10 @@ use Rattle.formula.specs.Count.{sizesOf}
 use Rattle.formula.specs.Count.Laws.{clause-count, sizes-refusal as count-refusal}
 use Rattle.formula.specs.declared.Sizes.{Sizes}
 use Rattle.text.specs.Decimal.{decimal}
+use Rattle.lengths.specs.Lines.{linesLength, requestLength}
+use Rattle.lengths.specs.Length.Laws.{literals-are, request-taken}
 use Rattle.text.specs.Text.{lineText}
+use Rattle.text.specs.Text.Laws.{line-length}
 use Rattle.dimacs.specs.File.{numberOf, valuesOf, headText, bodyText, fileText, answerBy, Counted, sizeValues, sizeAnswer, writeNumber, writeValues, writeAnswer, fileWritten}
 use Rattle.dimacs.specs.declared.Answer.{Answer}
 use Rattle.dimacs.specs.declared.Answer.the-variants.{Bytes, Refused}
@@ -79,6 +82,21 @@ pub body-more : (f : Formula) (k : ℕ) → k < length f → bodyText (take (k +
 body-more f k h =
     ap (λ (j : ℕ). bodyText (take j f)) (add-one k) ∙ ap bodyText (take-suc f k [] h)
     ∙ body-append (take k f) (getD f k [] ∷ []) ∙ ap (λ (l : List ℕ). bodyText (take k f) ++ l) (body-one (getD f k []))
+
+-- the lines are as long as their literals, with two bytes more each
+lines-are : (f : Formula) → length (bodyText f) ≡ linesLength f
+unfolding bodyText
+lines-are [] = refl
+lines-are (c ∷ f) =
+    let e = length-append (lineText c) (bodyText f) in
+    let l = line-length c in
+    let a = literals-are c in
+    let r = lines-are f in
+    omega arith
+
+-- those of a request that is not refused
+pub body-length : (q : Request) {x : ℕ} → Good q → x ≡ requestLength q → x ≡ length (bodyText (formulaOf q))
+body-length q g e = e ∙ sym (request-taken q (good-refusal q g)) ∙ sym (lines-are (formulaOf q))
 
 -- the refusal among the sizes is the request's
 pub sizes-refusal : (q : Request) {x : Sizes} → x ≡ sizesOf q → x .refusal ≡ refusalOf q
