@@ -38,10 +38,9 @@ literalsRoom = 8192
 abbrev pub clausesRoom : ℕ
 clausesRoom = 2048
 
--- what storing clauses in two lists leaves: how many they are, how many literals they have, and the lists that begin with them
+-- what storing clauses in two lists leaves: how many they are, and the lists that begin with them
 pub record Loaded (F : Formula) (old : List ℤ) (before : List ℕ) (x : StoredBlock) (literals : List ℤ) (pairs : List ℕ)
     : Type 0 where
   pub clauses-are : x .clauses ≡ length F
-  pub literals-are : x .literals ≡ length (flatten F)
   pub literals-hold : literals ≡ written old 0 (signs (flatten F))
   pub pairs-hold : pairs ≡ written before 0 (pairsFrom 0 F)

@@ -10,7 +10,7 @@ use Rattle.cnf.specs.Cnf.{Formula}
 use Rattle.request.specs.Numbers.{Good, refusalOf}
 use Rattle.request.specs.declared.Request.{Request}
 use Rattle.formula.specs.Formula.{formulaOf}
-use Rattle.formula.specs.Count.{variableCount, clauseCount, literalCount}
+use Rattle.formula.specs.Count.{variableCount, clauseCount}
 use Rattle.formula.specs.declared.Sizes.{Sizes}
 use Rattle.text.specs.Decimal.{decimal}
 use Rattle.text.specs.Text.{lineText}
@@ -33,7 +33,6 @@ pub record Counted (q : Request) (x : Sizes) : Type 0 where
   pub good : Good q
   pub variables-are : x .variables ≡ variableCount q
   pub clauses-are : x .clauses ≡ clauseCount q
-  pub literals-are : x .literals ≡ literalCount q
 
 -- "p cnf V C" and the newline
 unfoldable pub headText : ℕ → ℕ → List ℕ
@@ -52,7 +51,8 @@ fileText q = headText (variableCount q) (length (formulaOf q)) ++ bodyText (form
 abbrev pub answerBy : ℕ → ℕ → Answer
 answerBy k size = cond (eqb k 0) (Bytes size) (Refused k)
 
--- "Size of file: only 2 to 5", and since document 02 24: its number is that of the test of numbers; the result is the length
+-- "Size of file: only 2 to 5", and since document 02 24: its number is that of the test of numbers. "The size of file becomes exactly the
+-- length that writing returns" (document 02, U2)
 unfoldable pub sizeValues : Request → List ℕ
 sizeValues q = cond (eqb (refusalOf q) 0) (length (fileText q) ∷ []) []
 

@@ -16,7 +16,7 @@ ghost use Rattle.prelude.specs.Written.Laws.{Wrote};
 ghost use Rattle.request.specs.Numbers.{Good};
 ghost use Rattle.formula.specs.Formula.{formulaOf};
 ghost use Rattle.dimacs.specs.Block.{Within, blockText};
-ghost use Rattle.dimacs.specs.File.{numberOf, valuesOf, headText, bodyText, fileText, writeNumber, writeValues, writeAnswer, fileWritten};
+ghost use Rattle.dimacs.specs.File.{numberOf, valuesOf, headText, bodyText, writeNumber, writeValues, writeAnswer, fileWritten};
 ghost use Rattle.dimacs.specs.Means.{Meaning};
 
 // Writes the first line at the buffer's start.

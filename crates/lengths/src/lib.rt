@@ -4,7 +4,6 @@ mod parts;
 use formula_clauses::variables;
 use request::Request;
 ghost use mathlib.Core.Path.{_≡_};
-ghost use Prim.Native.Nat.{_≤_};
 ghost use Rattle.request.specs.Numbers.{Good};
 ghost use Rattle.formula.specs.Formula.{formulaOf};
 ghost use Rattle.lengths.specs.Lines.{linesLength, requestLength};

@@ -97,7 +97,6 @@ module _ (q : Request) (good : Good q) (b : ℕ) (there : b ≤ 2 ^ (q .n)) wher
       let t = block-stored q b literals pairs z in
       record {
         clauses-are = ap (λ (y : StoredBlock). y .clauses) w ∙ h;
-        literals-are = ap (λ (y : StoredBlock). y .literals) w ∙ k;
         literals-hold = l-is ∙ sym (t .0) ∙ ap (λ (F : Formula). written literals 0 (signs (flatten F))) B;
         pairs-hold = p-is ∙ sym (t .1) ∙ ap (λ (F : Formula). written pairs 0 (pairsFrom 0 F)) B;
       }

@@ -111,7 +111,6 @@ sizes-counted q e h =
       good = refusal-good q z;
       variables-are = ap (λ (x : Sizes). x .variables) e ∙ rw z;
       clauses-are = ap (λ (x : Sizes). x .clauses) e ∙ rw z;
-      literals-are = ap (λ (x : Sizes). x .literals) e ∙ rw z;
     }
 
 module _ (q : Request) {x : Sizes} (counted : Counted q x) where

@@ -75,10 +75,10 @@ network-past q k g h =
 pub block-first : (q : Request) (b : ℕ) → b ≡ 0 → Network ≡ blockOf q b
 block-first q b e = rw e
 
-pub block-row : (q : Request) (b : ℕ) → 0 < b
-    → blockOf q b ≡ byKind (On (variablesBefore q (b - 1)) (b - 1)) (Off (variablesBefore q (b - 1)) (b - 1)) Free (kindOf q (b - 1))
-block-row q zero h = absurd (omega arith)
-block-row q (suc k) h = let e : suc k - 1 ≡ k = omega arith in rw e
+pub block-row : (q : Request) (b k B : ℕ) {x y : Kind} → b ≡ suc k → B ≡ variablesBefore q k → x ≡ kindOf q k → x ≡ y
+    → byKind (On B k) (Off B k) Free y ≡ blockOf q b
+block-row q b k B s v e f =
+    ap₂ (λ (t : Kind) (B : ℕ). byKind (On B k) (Off B k) Free t) (sym f ∙ e) v ∙ sym (ap (blockOf q) s)
 
 module _ (q : Request) where
   abbrev base : ℕ

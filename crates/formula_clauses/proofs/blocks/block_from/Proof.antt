@@ -1,24 +1,11 @@
 -- The first block is that of groups 1 and 2, and block k + 1 that of row k, by its kind. Assumes nothing.
-use mathlib.Core.Path.{_≡_, sym, ap₂, _∙_}
-use Prim.Native.Nat.{ℕ, _-_}
+use Prim.Native.Nat.{_-_}
 use native.Mathlib.Omega.{arith}
 use Rattle.request.specs.Numbers.Laws.{rows-high}
-use Rattle.request.specs.declared.Request.{Request}
-use Rattle.rows.specs.Rows.{kindOf, byKind}
-use Rattle.rows.specs.declared.Kind.{Kind}
-use Rattle.formula.specs.Count.{variablesBefore}
-use Rattle.formula_clauses.specs.declared.Block.the-variants.{On, Off, Free}
-use Rattle.formula_clauses.specs.Block.{blockOf}
 use Rattle.formula_clauses.specs.Block.Laws.{block-first, block-row}
 use borrow.Author.Needs.{needs}
 use Rattle.formula_clauses.proofs.blocks.block_from.Statement.{statement}
 use Rattle.formula_clauses.proofs.blocks.block_from.Tie as tie
-
--- the block of a row, from its kind
-row-is : (q : Request) (b B : ℕ) {x y : Kind} → B ≡ variablesBefore q (b - 1) → x ≡ kindOf q (b - 1) → x ≡ y → (b ≡ 0 → ⊥)
-    → byKind (On B (b - 1)) (Off B (b - 1)) Free y ≡ blockOf q b
-row-is q b B v e f h =
-    ap₂ (λ (t : Kind) (B : ℕ). byKind (On B (b - 1)) (Off B (b - 1)) Free t) (sym f ∙ e) v ∙ sym (block-row q b (omega arith))
 
 returns : tie.Need-returns
 returns c = (block-first _ _ (c .if1 .taken), tt)
@@ -45,19 +32,19 @@ returns-2 : tie.Need-returns-2
 returns-2 c =
     let k = c .before .before in
     let s = k .before .before in
-    (row-is (s .args .q) (s .args .b) (s .args .before) (s .pre .2) (k .row-kind .ensures) (c .enum-told .given .1) (k .before .if1 .left), (s .pre .3, omega (arith, s .pre .1)))
+    (block-row (s .args .q) (s .args .b) (s .args .b - 1) (s .args .before) (omega (arith, k .before .if1 .left)) (s .pre .2) (k .row-kind .ensures) (c .enum-told .given .1), (s .pre .3, omega (arith, s .pre .1)))
 
 returns-3 : tie.Need-returns-3
 returns-3 c =
     let k = c .before .before in
     let s = k .before .before in
-    (row-is (s .args .q) (s .args .b) (s .args .before) (s .pre .2) (k .row-kind .ensures) (c .enum-told2 .given .1) (k .before .if1 .left), (s .pre .3, omega (arith, s .pre .1)))
+    (block-row (s .args .q) (s .args .b) (s .args .b - 1) (s .args .before) (omega (arith, k .before .if1 .left)) (s .pre .2) (k .row-kind .ensures) (c .enum-told2 .given .1), (s .pre .3, omega (arith, s .pre .1)))
 
 returns-4 : tie.Need-returns-4
 returns-4 c =
     let k = c .before .before in
     let s = k .before .before in
-    (row-is (s .args .q) (s .args .b) (s .args .before) (s .pre .2) (k .row-kind .ensures) (c .enum-told3 .given .1) (k .before .if1 .left), tt)
+    (block-row (s .args .q) (s .args .b) (s .args .b - 1) (s .args .before) (omega (arith, k .before .if1 .left)) (s .pre .2) (k .row-kind .ensures) (c .enum-told3 .given .1), tt)
 
 pub block-from-spec : {M : Type 1} → statement M
 block-from-spec =

@@ -1,17 +1,13 @@
 -- `parts::row_size` meets its contract: the row's block, by its kind. Assumes nothing.
-use mathlib.Core.Path.{_≡_, sym, ap, ap₂, _∙_}
-use Prim.Native.Nat.{ℕ, _+_, _-_, _*_, _≤_}
+use mathlib.Core.Path.{ap, _∙_}
+use Prim.Native.Nat.{_+_, _*_, _≤_}
 use native.Mathlib.Nat.{mul-le-mul}
+use native.Mathlib.Numerals.{add-one}
 use native.Mathlib.Omega.{arith}
 use borrow.Author.Needs.{needs}
 use Rattle.request.specs.Numbers.Laws.{rows-high}
-use Rattle.request.specs.declared.Request.{Request}
-use Rattle.rows.specs.Rows.{kindOf, byKind}
-use Rattle.rows.specs.declared.Kind.{Kind}
-use Rattle.formula.specs.Count.{variablesBefore}
 use Rattle.formula_clauses.specs.declared.Block.{Block}
-use Rattle.formula_clauses.specs.declared.Block.the-variants.{On, Off, Free}
-use Rattle.formula_clauses.specs.Block.{blockClauses, blockVariables, blockOf}
+use Rattle.formula_clauses.specs.Block.{blockClauses, blockVariables}
 use Rattle.formula_clauses.specs.Block.Laws.{block-row}
 use Rattle.lengths.specs.Lines.{linesLength}
 use Rattle.lengths.proofs.parts.row_size.Statement.{statement}
@@ -22,14 +18,6 @@ most : (c : tie.Start) → c .args .q .m * (2 * c .args .q .r + 1) ≤ 15 * 31
 most c =
     let g = c .pre .0 in
     mul-le-mul {n₁ = c .args .q .m} {m₁ = 2 * c .args .q .r + 1} {n₂ = 15} {m₂ = 31} (omega (arith, g .m-high)) (omega (arith, g .r-high))
-
--- the block of a row, from its kind
-row-is : (q : Request) (k B : ℕ) {x y : Kind} → B ≡ variablesBefore q k → x ≡ kindOf q k → x ≡ y
-    → byKind (On B k) (Off B k) Free y ≡ blockOf q (k + 1)
-row-is q k B v e f =
-    let z : k + 1 - 1 ≡ k = omega arith in
-    ap₂ (λ (t : Kind) (B : ℕ). byKind (On B k) (Off B k) Free t) (sym f ∙ e) v
-    ∙ ap (λ (j : ℕ). byKind (On (variablesBefore q j) j) (Off (variablesBefore q j) j) Free (kindOf q j)) (sym z) ∙ sym (block-row q (k + 1) (omega arith))
 
 cast-row : tie.Need-cast-row
 cast-row c = omega (arith, c .pre .1, rows-high (c .args .q .n) (c .pre .0 .n-high))
@@ -81,7 +69,7 @@ returns c =
     let e = c .before .before .before in
     let k = e .before .before in
     let s = k .before in
-    let b = row-is (s .args .q) (s .args .k) (s .args .before) (s .pre .2) (k .row-kind .ensures) (e .enum-told .given .1) in (
+    let b = block-row (s .args .q) (s .args .k + 1) (s .args .k) (s .args .before) (add-one (s .args .k)) (s .pre .2) (k .row-kind .ensures) (e .enum-told .given .1) in (
       (ap (blockVariables (s .args .q .r) (s .args .q .m)) b, omega (arith, most s)),
       (c .on-row-length .ensures .0 ∙ ap (λ (x : Block). linesLength (blockClauses (s .args .q .n) (s .args .q .r) (s .args .q .m) x)) b, c .on-row-length .ensures .1),
     )
@@ -91,7 +79,7 @@ returns-2 c =
     let e = c .before .before in
     let k = e .before .before in
     let s = k .before in
-    let b = row-is (s .args .q) (s .args .k) (s .args .before) (s .pre .2) (k .row-kind .ensures) (e .enum-told2 .given .1) in (
+    let b = block-row (s .args .q) (s .args .k + 1) (s .args .k) (s .args .before) (add-one (s .args .k)) (s .pre .2) (k .row-kind .ensures) (e .enum-told2 .given .1) in (
       (ap (blockVariables (s .args .q .r) (s .args .q .m)) b, omega (arith, s .pre .0 .r-high)),
       (c .off-row-length .ensures .0 ∙ ap (λ (x : Block). linesLength (blockClauses (s .args .q .n) (s .args .q .r) (s .args .q .m) x)) b, omega (arith, c .off-row-length .ensures .1)),
     )
@@ -100,7 +88,7 @@ returns-3 : tie.Need-returns-3
 returns-3 c =
     let k = c .before .before in
     let s = k .before in
-    let b = row-is (s .args .q) (s .args .k) (s .args .before) (s .pre .2) (k .row-kind .ensures) (c .enum-told3 .given .1) in (
+    let b = block-row (s .args .q) (s .args .k + 1) (s .args .k) (s .args .before) (add-one (s .args .k)) (s .pre .2) (k .row-kind .ensures) (c .enum-told3 .given .1) in (
       (ap (blockVariables (s .args .q .r) (s .args .q .m)) b, omega arith),
       (ap (λ (x : Block). linesLength (blockClauses (s .args .q .n) (s .args .q .r) (s .args .q .m) x)) b, omega arith),
     )
