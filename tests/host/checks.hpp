@@ -85,7 +85,7 @@ class Group {
 }
 
 // Any request as numbers.
-std::string numbers_of(const Request& q) {
+[[maybe_unused]] std::string numbers_of(const Request& q) {
     return "n=" + std::to_string(q.n) + " table=" + std::to_string(q.table) +
            " free=" + std::to_string(q.free) + " r=" + std::to_string(q.r) +
            " M=" + std::to_string(q.m);

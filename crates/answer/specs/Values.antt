@@ -33,10 +33,6 @@ refusedBy top keep values x = ltb top x || (leb x keep && not (eqb (getD values 
 unfoldable pub keptBy : ℕ → List ℕ → ℕ → ℕ → List ℕ
 keptBy keep values x minus = cond (leb x keep) (set values (x - 1) (valueOf minus)) values
 
--- a number's effect, both in one
-unfoldable pub namedOne : ℕ → ℕ → List ℕ → ℕ → ℕ → Named
-namedOne top keep values x minus = cond (refusedBy top keep values x) (named true values) (named false (keptBy keep values x minus))
-
 -- the numbers of a line, left to right, from the place p before one, f at most; the 0 and the newline end them
 unfoldable pub namedFrom : ℕ → ℕ → ℕ → List ℕ → ℕ → List ℕ → Named
 namedFrom zero top keep t p values = named false values

@@ -7,6 +7,8 @@ use network::LITERALS;
 use network::Network;
 use network::TERMINALS;
 use request::INPUTS;
+ghost use mathlib.Core.Path.{_≡_};
+ghost use Rattle.answer.specs.Values.{assigned};
 
 // The most X and L variables: N(N-1)/2, and 2n for each switch.
 pub const VALUES: usize = TERMINALS * (TERMINALS - 1) / 2 + 2 * (INPUTS as usize) * LITERALS;
@@ -45,4 +47,15 @@ pub struct Lines {
 pub struct Decoded {
     pub refusal: u8,
     pub network: Network,
+}
+
+// Whether variable x is named true.
+pub fn is_true(values: &[u8], x: u32) -> bool
+    ensures { λ y. ⌜ y ≡ assigned (now (values .entry)) x ⌝ }
+{
+    let at = if x == 0 { 0 } else { (x - 1) as usize };
+    if values.len() <= at {
+        return false;
+    }
+    values[at] == 1
 }

@@ -130,14 +130,13 @@ fn judge(q: Request, keep: usize, l: Lines) -> Decoded
     if l.phase != 2 {
         return refused(11);
     }
-    let values = l.values;
-    if !values::all_named(keep, values) {
+    if !values::all_named(keep, &l.values) {
         return refused(11);
     }
-    if !values::clauses_hold(q, values) {
+    if !values::clauses_hold(q, &l.values) {
         return refused(12);
     }
-    let w = decode::decode(q.n, q.r, values);
+    let w = decode::decode(q.n, q.r, l.values);
     Decoded {
         refusal: 0,
         network: w,

@@ -1,6 +1,5 @@
 // The values that v lines name.
 use answer::Named;
-use answer::VALUES;
 use answer::Values;
 use cnf::Literal;
 use formula::Clause;
@@ -14,37 +13,20 @@ ghost use Rattle.prelude.specs.Lists.{Each};
 ghost use Rattle.request.specs.Numbers.{Good};
 ghost use Rattle.formula.specs.Clause.{run, literalsOf};
 ghost use Rattle.formula.specs.Count.{networkCount, valuesMost, variablesMost};
-ghost use Rattle.answer.specs.Values.{namedOne, namedFrom, complete, assigned, holding};
+ghost use Rattle.answer.specs.Values.{refusedBy, namedFrom, complete, assigned, holding};
 
-// One number of a line: variable x, with a minus or none.
-fn name_one(top: usize, keep: usize, x: usize, minus: u8, before: Values) -> Named
-    requires { ⌜ (0 < x) × (keep ≤ valuesMost) × (minus ≤ 1) ⌝ }
-    ensures { λ y. ⌜ y ≡ namedOne top keep before x minus ⌝ }
+// Whether variable x is refused where it is named.
+fn is_refused(top: usize, keep: usize, values: &[u8], x: usize) -> bool
+    requires { ⌜ (0 < x) × (keep ≤ length (now values)) ⌝ }
+    ensures { λ y. ⌜ y ≡ refusedBy top keep (now (values .entry)) x ⌝ }
 {
     if top < x {
-        return Named {
-            refused: true,
-            values: before,
-        };
+        return true;
     }
     if keep < x {
-        return Named {
-            refused: false,
-            values: before,
-        };
+        return false;
     }
-    if before[x - 1] != 0 {
-        return Named {
-            refused: true,
-            values: before,
-        };
-    }
-    let mut values = before;
-    values[x - 1] = 1 + minus;
-    Named {
-        refused: false,
-        values: values,
-    }
+    values[x - 1] != 0
 }
 
 // The numbers of a line that has the form, from the place before the first.
@@ -63,11 +45,15 @@ pub(crate) fn name(text: &[u8], at: usize, top: usize, keep: usize, before: Valu
                 values: values,
             };
         }
-        let s = name_one(top, keep, w.value, w.minus, values);
-        if s.refused {
-            return s;
+        if is_refused(top, keep, &values, w.value) {
+            return Named {
+                refused: true,
+                values: values,
+            };
         }
-        values = s.values;
+        if w.value <= keep {
+            values[w.value - 1] = 1 + w.minus;
+        }
         let next = w.next;
         if numeral::byte(text, next) == b'\n' {
             return Named {
@@ -85,9 +71,9 @@ pub(crate) fn name(text: &[u8], at: usize, top: usize, keep: usize, before: Valu
 }
 
 // Whether the first keep values are all named.
-pub(crate) fn all_named(keep: usize, values: Values) -> bool
-    requires { ⌜ keep ≤ valuesMost ⌝ }
-    ensures { λ x. ⌜ x ≡ complete keep values ⌝ }
+pub(crate) fn all_named(keep: usize, values: &[u8]) -> bool
+    requires { ⌜ keep ≤ length (now values) ⌝ }
+    ensures { λ x. ⌜ x ≡ complete keep (now (values .entry)) ⌝ }
 {
     let mut i: usize = 0;
     while i < keep {
@@ -99,25 +85,11 @@ pub(crate) fn all_named(keep: usize, values: Values) -> bool
     true
 }
 
-// Whether variable x is named true.
-pub(crate) fn is_true(values: Values, x: u32) -> bool
-    ensures { λ y. ⌜ y ≡ assigned values x ⌝ }
-{
-    let number = x as usize;
-    if number == 0 {
-        return values[0] == 1;
-    }
-    if VALUES < number {
-        return false;
-    }
-    values[number - 1] == 1
-}
-
 // Whether a literal holds under the values.
-fn literal_holds(values: Values, l: Literal) -> bool
-    ensures { λ y. ⌜ y ≡ literalHolds (assigned values) l ⌝ }
+fn literal_holds(values: &[u8], l: Literal) -> bool
+    ensures { λ y. ⌜ y ≡ literalHolds (assigned (now (values .entry))) l ⌝ }
 {
-    let x = is_true(values, l.variable);
+    let x = answer::is_true(values, l.variable);
     if l.negative {
         return !x;
     }
@@ -125,13 +97,13 @@ fn literal_holds(values: Values, l: Literal) -> bool
 }
 
 // Whether one of count variables from first on is named true.
-fn run_holds(values: Values, first: u32, count: u32) -> bool
+fn run_holds(values: &[u8], first: u32, count: u32) -> bool
     requires { ⌜ Each (λ l. l .variable ≤ variablesMost) (run first count) ⌝ }
-    ensures { λ y. ⌜ y ≡ clauseHolds (assigned values) (run first count) ⌝ }
+    ensures { λ y. ⌜ y ≡ clauseHolds (assigned (now (values .entry))) (run first count) ⌝ }
 {
     let mut i: u32 = 0;
     while i < count {
-        if is_true(values, first + i) {
+        if answer::is_true(values, first + i) {
             return true;
         }
         i += 1;
@@ -140,9 +112,9 @@ fn run_holds(values: Values, first: u32, count: u32) -> bool
 }
 
 // Whether a clause holds under the values.
-fn clause_holds(values: Values, c: Clause) -> bool
+fn clause_holds(values: &[u8], c: Clause) -> bool
     requires { ⌜ Each (λ l. l .variable ≤ variablesMost) (literalsOf c) ⌝ }
-    ensures { λ y. ⌜ y ≡ clauseHolds (assigned values) (literalsOf c) ⌝ }
+    ensures { λ y. ⌜ y ≡ clauseHolds (assigned (now (values .entry))) (literalsOf c) ⌝ }
 {
     match c {
         Clause::Run(first, count) => run_holds(values, first, count),
@@ -166,9 +138,9 @@ fn clause_holds(values: Values, c: Clause) -> bool
 }
 
 // Whether the clauses of groups 1 and 2 hold under the values.
-pub(crate) fn clauses_hold(q: Request, values: Values) -> bool
+pub(crate) fn clauses_hold(q: Request, values: &[u8]) -> bool
     requires { ⌜ Good q ⌝ }
-    ensures { λ y. ⌜ y ≡ holding q (networkCount (q .n) (q .r)) values ⌝ }
+    ensures { λ y. ⌜ y ≡ holding q (networkCount (q .n) (q .r)) (now (values .entry)) ⌝ }
 {
     let count = groups::network_count(q.n, q.r);
     let mut k: u32 = 0;

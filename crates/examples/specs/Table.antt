@@ -20,7 +20,7 @@ use Rattle.formula.specs.Pairs.{pairsBefore, triplesBefore}
 use Rattle.formula.specs.Number.{clauseOf}
 use Rattle.numeral.specs.Number.{digitsAt, numberAt, literalAt as wordAt}
 use Rattle.answer.specs.Lines.{lineEnd, standsAt, formFrom, formAt}
-use Rattle.answer.specs.Values.{refusedBy, keptBy, namedOne, namedFrom, complete, assigned, holding}
+use Rattle.answer.specs.Values.{refusedBy, keptBy, namedFrom, complete, assigned, holding}
 use Rattle.answer.specs.Decode.{lowest, literalFor, labelFor, decoded}
 use Rattle.answer.specs.Reading.{passed, valued, lineStep, linesFrom, ended, readingOf}
 use Rattle.lrat.specs.Words.{wordsFrom, wordsAt, literalsAt, idsAt, runFrom, runAt, deletionAt, hintsAfter, additionAt, lineAfter, lineAt}
@@ -233,7 +233,7 @@ unfolding rows noSwitch slices refuted noRefutation oneReport oneSettled noneRep
     wordsFrom wordsAt literalsAt idsAt runFrom runAt deletionAt hintsAfter additionAt lineAfter lineAt standsIn clauseAt hintsOf without deleteAll
     concluded addStep deleteStep stepOf checkStep checkFrom linesOf roomRefusal refusalBefore outcomeOf linesFor checkAnswer clauseCount literalCount clausesBefore literalsBefore
     onRowCount onRowLiterals pairsBefore triplesBefore
-    equalLists oneSwitch oneAnswer answered digitsAt numberAt wordAt lineEnd standsAt formFrom formAt refusedBy keptBy namedOne namedFrom complete assigned holding
+    equalLists oneSwitch oneAnswer answered digitsAt numberAt wordAt lineEnd standsAt formFrom formAt refusedBy keptBy namedFrom complete assigned holding
     lowest literalFor labelFor decoded passed valued lineStep linesFrom ended readingOf clauseOf exclusive checked reading network requestOf requestNumber lineForm numbersRefusal runEnd leading endedBy single isTable marked
     firstRequest firstFile variablesAndClauses largest each flatten pairNumber X P L W S transitivity choice choices someStep closedStep firstStep
     linkStep lastStep onRow netSides switchSides offRow rowVariables rowClauses rowsFrom formula formulaOf split setBelow kindOf offBelow overlapping variablesBefore variableCount

@@ -1,6 +1,6 @@
 // The numbers of the variables (document 01, "Variables, from 1").
 ghost use mathlib.Core.Path.{_≡_};
-ghost use Prim.Native.Nat.{_+_, _*_, _≤_, _<_};
+ghost use Prim.Native.Nat.{ℕ, _+_, _-_, _*_, _≤_, _<_};
 ghost use Rattle.formula.specs.Formula.{terminals, pairNumber, X, P, L, networkVariables, W, S};
 
 // P
@@ -12,25 +12,32 @@ fn pair_count(r: u32) -> u32
     terminals * (terminals - 1) / 2
 }
 
-// X(i,j), i < j; where i is past the terminals it takes none of them away
-fn joined_up(r: u32, i: u32, j: u32) -> u32
-    requires { ⌜ (r ≤ 255) × (i ≤ j) × (j ≤ 65535) ⌝ }
-    ensures { λ x. ⌜ (x ≡ pairNumber (terminals r) i j) × (x < 1000000) ⌝ }
+// X(i,j), i < j, of N terminals, by 2N - 1; where i is past the terminals it takes none of them away
+fn joined_up(high: u32, i: u32, j: u32) -> u32
+    requires { ⌜ (high ≤ 1023) × (i ≤ j) × (j ≤ 65535) ⌝ }
+    ensures { λ x. ⌜ ((N : ℕ) → high ≡ 2 * N - 1 → x ≡ pairNumber N i j) × (x < 1000000) ⌝ }
 {
-    let high = 4 * r + 3;
     let span = if i < high { high - i } else { 0 };
     i * span / 2 + (j - i)
 }
 
-// X(i,j), for any two terminals
+// X(i,j), for any two of N terminals, by 2N - 1
+fn joined_by(high: u32, i: u32, j: u32) -> u32
+    requires { ⌜ (high ≤ 1023) × (i ≤ 65535) × (j ≤ 65535) ⌝ }
+    ensures { λ x. ⌜ ((N : ℕ) → high ≡ 2 * N - 1 → x ≡ X N i j) ⌝ }
+{
+    if i < j {
+        return joined_up(high, i, j);
+    }
+    joined_up(high, j, i)
+}
+
+// X(i,j), for any two terminals of r switches
 pub(crate) fn joined(r: u32, i: u32, j: u32) -> u32
     requires { ⌜ (r ≤ 255) × (i ≤ 65535) × (j ≤ 65535) ⌝ }
     ensures { λ x. ⌜ x ≡ X (terminals r) i j ⌝ }
 {
-    if i < j {
-        return joined_up(r, i, j);
-    }
-    joined_up(r, j, i)
+    joined_by(4 * r + 3, i, j)
 }
 
 // L(s,v)
@@ -57,7 +64,19 @@ pub(crate) fn side(before: u32, i: u32) -> u32
     before + i + 1
 }
 
-// X(i,j)
+// X(i,j) of so many terminals
+pub fn joined_among(count: u8, i: u8, j: u8) -> u32
+    ensures { λ x. ⌜ x ≡ X count i j ⌝ }
+{
+    let high = if count == 0 {
+        0
+    } else {
+        2 * (count as u32) - 1
+    };
+    joined_by(high, i as u32, j as u32)
+}
+
+// X(i,j) of r switches
 pub fn joined_number(r: u8, i: u8, j: u8) -> u32
     ensures { λ x. ⌜ x ≡ X (terminals r) i j ⌝ }
 {

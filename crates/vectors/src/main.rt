@@ -1,7 +1,11 @@
 // Runs the proved functions on examples and writes what each answers, a line for each: requests read from text, requests given as
-// numbers, networks checked and compared, parts of a refutation's text. What it must write stands in the file stdout beside src/.
+// numbers, networks checked and compared, parts of a refutation's text, the labels of clusters. What it must write stands in the file
+// stdout beside src/.
+use answer::VALUES;
+use answer::Values;
 use network::Checked;
 use network::Network;
+use network::TERMINALS;
 use request::Reading;
 use request::Request;
 
@@ -232,10 +236,99 @@ fn parts() {
     show_part(text, &outside, 0, 3, 3);
 }
 
+// The first values, a digit for each.
+fn show_values(values: Values, count: usize) {
+    let mut i: usize = 0;
+    while i < VALUES {
+        if i < count {
+            io::print_decimal(1, values[i] as u64);
+        }
+        i += 1;
+    }
+}
+
+// The labels that the X of so many terminals give, after the terminals' number and the values.
+fn show_labels(terminals: u8, pairs: usize, values: Values) {
+    io::write_all(1, b"labels");
+    number(terminals as u64);
+    io::write_all(1, b" ");
+    show_values(values, pairs);
+    io::write_all(1, b":");
+    let labels = clusters::find_labels(terminals, values);
+    let mut i: usize = 0;
+    while i < TERMINALS {
+        number(labels[i] as u64);
+        i += 1;
+    }
+    io::write_all(1, b"\n");
+}
+
+// Every assignment of the six X of four terminals; the values past them, which are not theirs, are all true.
+fn four_terminals() {
+    let mut a: u8 = 0;
+    while a < 64 {
+        let mut values = [1u8; VALUES];
+        values[0] = a % 2;
+        values[1] = a / 2 % 2;
+        values[2] = a / 4 % 2;
+        values[3] = a / 8 % 2;
+        values[4] = a / 16 % 2;
+        values[5] = a / 32 % 2;
+        show_labels(4, 6, values);
+        a += 1;
+    }
+}
+
+// Values that follow from a seed: 1, which is true, about once in so many, and 0, 2 and 3, which are not.
+fn drawn(seed: u32, once_in: u32) -> Values {
+    let mut values = [0u8; VALUES];
+    let mut state = seed;
+    let mut i: usize = 0;
+    while i < VALUES {
+        state = (state % 65537 * 75 + 74) % 65537;
+        let other = (state / 64 % 3) as u8;
+        values[i] = if state % (once_in % 32 + 1) == 0 {
+            1
+        } else if other == 1 {
+            3
+        } else {
+            other
+        };
+        i += 1;
+    }
+    values
+}
+
+// Drawn values for so many terminals: many true, then fewer.
+fn some_terminals(terminals: u8, pairs: usize) {
+    let mut k: u32 = 0;
+    while k < 24 {
+        show_labels(terminals, pairs, drawn(127 * (terminals as u32) + k, k));
+        k += 1;
+    }
+}
+
+// From no terminals to as many as an array holds, then more.
+fn labels() {
+    four_terminals();
+    show_labels(0, 0, [1u8; VALUES]);
+    show_labels(1, 0, [1u8; VALUES]);
+    let mut terminals: u8 = 2;
+    let mut pairs: usize = 1;
+    while terminals <= 16 {
+        some_terminals(terminals, pairs);
+        pairs += terminals as usize;
+        terminals += 1;
+    }
+    show_labels(17, 0, [1u8; VALUES]);
+    show_labels(255, 0, [1u8; VALUES]);
+}
+
 fn main() {
     requests();
     numbers();
     exclusive();
     small();
     parts();
+    labels();
 }

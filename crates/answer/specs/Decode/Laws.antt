@@ -1,19 +1,18 @@
 -- Laws of decoding: the least number that passes a test, and an array filled from its start. Assumes nothing.
 use mathlib.Core.Path.{_≡_, sym, ap, ap₂, _∙_, subst}
-use mathlib.Core.Bool.{Bool, true, false, not, _||_}
+use mathlib.Core.Bool.{Bool, true, false, not}
 use mathlib.Core.List.{List, [], _∷_, _++_, append-assoc}
 use Prim.Native.Nat.{ℕ, suc, _+_, _-_, _*_, _≤_, _<_}
 use native.Mathlib.Numerals.{add-one}
 use native.Mathlib.Omega.{arith}
-use lib.Dec.{T, eqb, eqb→eq, eqb-refl, not-T}
-use mathlib.Core.Logic.{_⊎_, inl, inr}
+use lib.Dec.{T}
 use lib.ListN.{getD, set, replicate}
 use lib.Seq.{set-at}
-use Rattle.prelude.specs.Tests.{T-of, or-l, or-r, or-cases}
+use Rattle.prelude.specs.Tests.{T-of}
 use Rattle.prelude.specs.Lists.{tab}
 use Rattle.prelude.specs.Lists.Laws.{length-tab, getD-tab, tab-more, first-is, first-none}
-use Rattle.formula.specs.Formula.{terminals, X, L}
-use Rattle.answer.specs.Decode.{lowest, literalFor, labelFor}
+use Rattle.formula.specs.Formula.{terminals, L}
+use Rattle.answer.specs.Decode.{lowest, literalFor}
 use Rattle.answer.specs.Values.{assigned}
 
 -- an entry of the numbers below c
@@ -75,29 +74,3 @@ module _ (n r : ℕ) (values : List ℕ) (s : ℕ) where
   literal-none v h k g =
       let e : v ≡ 2 * n = omega arith in
       e ∙ sym (lowest-none (λ v. assigned values (L n (terminals r) s v)) (2 * n) (λ j l. g j (omega arith)))
-
-module _ (r : ℕ) (values : List ℕ) (i : ℕ) where
-  -- the test of one terminal, by its variable's number
-  joined-test : (j x : ℕ) (b : Bool) → x ≡ X (terminals r) j i → b ≡ assigned values x → b ≡ assigned values (X (terminals r) j i)
-  joined-test j x b e f = f ∙ ap (assigned values) e
-
-  pub label-found : (j x : ℕ) (b : Bool) → j < i → x ≡ X (terminals r) j i → b ≡ assigned values x → b ≡ true
-      → ((k : ℕ) → k < j → T (not (eqb k i || assigned values (X (terminals r) k i)))) → j ≡ labelFor r (assigned values) i
-  unfolding labelFor
-  label-found j x b h e f t g =
-      sym (lowest-is (λ j. eqb j i || assigned values (X (terminals r) j i)) (i + 1) j (omega arith)
-      (or-r (eqb j i) (assigned values (X (terminals r) j i)) (T-of (assigned values (X (terminals r) j i)) (sym (joined-test j x b e f) ∙ t))) g)
-
-  pub label-not : (j x : ℕ) (b : Bool) → j < i → x ≡ X (terminals r) j i → b ≡ assigned values x → b ≡ false → T (not (eqb j i || assigned values (X (terminals r) j i)))
-  label-not j x b h e f t =
-      not-T (eqb j i || assigned values (X (terminals r) j i)) (λ y. none (or-cases (eqb j i) (assigned values (X (terminals r) j i)) y))
-    where
-      none : T (eqb j i) ⊎ T (assigned values (X (terminals r) j i)) → ⊥
-      none (inl y) = let z = eqb→eq j i y in omega arith
-      none (inr y) = subst T (sym (joined-test j x b e f) ∙ t) y
-
-  pub label-own : (j : ℕ) → i ≤ j → j ≤ i → ((k : ℕ) → k < j → T (not (eqb k i || assigned values (X (terminals r) k i)))) → j ≡ labelFor r (assigned values) i
-  unfolding labelFor
-  label-own j h k g =
-      let e : j ≡ i = omega arith in
-      e ∙ sym (lowest-is (λ j. eqb j i || assigned values (X (terminals r) j i)) (i + 1) i (omega arith) (or-l (eqb i i) (assigned values (X (terminals r) i i)) (eqb-refl i)) (λ k l. g k (omega arith)))

@@ -65,12 +65,12 @@ module _ (r : ℕ) (α : Assignment) where
   label-low i = (lowest-found (λ j. meets r α j i) (i + 1) i (omega arith) (or-l (eqb i i) (α (X (terminals r) i i)) (eqb-refl i))) .1
 
   -- and meets it
-  label-meets : (i : ℕ) → T (meets r α (labelFor r α i) i)
+  pub label-meets : (i : ℕ) → T (meets r α (labelFor r α i) i)
   unfolding labelFor
   label-meets i = (lowest-found (λ j. meets r α j i) (i + 1) i (omega arith) (or-l (eqb i i) (α (X (terminals r) i i)) (eqb-refl i))) .0
 
   -- and at or below each terminal that meets it
-  label-least : (i j : ℕ) → j ≤ i → T (meets r α j i) → labelFor r α i ≤ j
+  pub label-least : (i j : ℕ) → j ≤ i → T (meets r α j i) → labelFor r α i ≤ j
   unfolding labelFor
   label-least i j h t = (lowest-found (λ j. meets r α j i) (i + 1) j (omega arith) t) .1
 
@@ -124,7 +124,7 @@ module _ (r : ℕ) (α : Assignment) (sat : Sat α (transitivity (terminals r)))
   joined-through i j k a b c d x y (inr (inr g)) (inl h) (inr (inr l)) = joined-back r α k i (above j k i h l a y (joined-back r α i j x))
 
   -- to meet is transitive
-  meets-through : (i j k : ℕ) → i < terminals r → j < terminals r → k < terminals r → T (meets r α i j) → T (meets r α j k) → T (meets r α i k)
+  pub meets-through : (i j k : ℕ) → i < terminals r → j < terminals r → k < terminals r → T (meets r α i j) → T (meets r α j k) → T (meets r α i k)
   meets-through i j k a b c s t =
       ⊎-elim (λ (e : T (eqb i j)). subst (λ (z : ℕ). T (meets r α z k)) (sym (eqb→eq i j e)) t)
       (λ (x : T (α (X (terminals r) i j))).

@@ -14,7 +14,7 @@ use Rattle.prelude.specs.Lists.Laws.{all-out}
 use Rattle.cnf.specs.Cnf.{Assignment, Clause, clauseHolds, Sat}
 use Rattle.cnf.specs.Cnf.Laws.{sat-all}
 use Rattle.request.specs.declared.Request.{Request}
-use Rattle.request.specs.Numbers.{refusalOf}
+use Rattle.request.specs.Numbers.{refusalOf, Good}
 use Rattle.request.specs.Numbers.Laws.{refusal-good}
 use Rattle.network.specs.declared.Network.{Network}
 use Rattle.network.specs.Networks.{FormedAs, literalAt, labelAt}
@@ -149,7 +149,7 @@ described-fits q α w d =
         ∙ d .label-there i h ∙ sym (listed-label (q .r) w i h)
 
 -- ---- groups 1 and 2 are the first clauses of a request
-module _ (q : Request) (values : List ℕ) (good : refusalOf q ≡ 0)
+module _ (q : Request) (values : List ℕ) (good : Good q)
     (held : holding q (networkCount (q .n) (q .r)) values ≡ true) where
   -- a clause of the request holds of the values
   abbrev Holds : Clause → Type 0
@@ -159,12 +159,12 @@ module _ (q : Request) (values : List ℕ) (good : refusalOf q ≡ 0)
   clause-holds : (k : ℕ) → k < networkCount (q .n) (q .r) → Holds (getD (formulaOf q) k [])
   unfolding holding
   clause-holds k h =
-      subst Holds (clause-good q k (refusal-good q good))
+      subst Holds (clause-good q k good)
       (all-out 0 (networkCount (q .n) (q .r)) (λ k. clauseHolds (assigned values) (clauseOf q k))
       (T-of _ held) k (omega arith) (omega arith))
 
   -- those of group 1
-  nets-hold : Sat (assigned values) (transitivity (terminals (q .r)))
+  pub nets-hold : Sat (assigned values) (transitivity (terminals (q .r)))
   nets-hold = sat-all (assigned values) (transitivity (terminals (q .r))) (λ k h.
       subst Holds (in-nets q k h) (clause-holds k (omega (arith, network-length (q .n) (q .r)))))
 
@@ -220,8 +220,9 @@ reading-lines q t z = rw (eq-eqb (refusalOf q) 0 z)
 pub taken-describes : (q : Request) (t : List ℕ) → readingOf q t .refusal ≡ 0
     → Describes q (assignmentIn q t) (readingOf q t .network)
 taken-describes q t e =
-    let good = taken-request q t e in
-    let is : readingOf q t ≡ ended q (linesIn q t) = reading-lines q t good in
+    let taken = taken-request q t e in
+    let good = refusal-good q taken in
+    let is : readingOf q t ≡ ended q (linesIn q t) = reading-lines q t taken in
     let w = ended-zero q (linesIn q t) (ap (λ (d : Decoded). d .refusal) (sym is) ∙ e) in
     subst (Describes q (assignmentIn q t)) (sym (ap (λ (d : Decoded). d .network) is ∙ w .1))
     (decoded-described q (assignmentIn q t) (nets-hold q (valuesIn q t) good (w .0)) (picks-hold q (valuesIn q t) good (w .0)))

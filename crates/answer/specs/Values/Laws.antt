@@ -2,7 +2,7 @@
 -- by index. Assumes nothing.
 use mathlib.Core.Path.{_≡_, refl, sym, ap, ap₂, _∙_, subst}
 use mathlib.Core.List.{List, [], _∷_}
-use mathlib.Core.Bool.{Bool, true, false, not, _||_, cond}
+use mathlib.Core.Bool.{Bool, true, false, not, _||_}
 use Prim.Native.Nat.{ℕ, zero, suc, _+_, _-_, _≤_, _<_}
 use native.Mathlib.Omega.{arith}
 use lib.Dec.{T, eqb}
@@ -21,39 +21,34 @@ use Rattle.numeral.specs.declared.Word.{Word}
 use Rattle.numeral.specs.Number.{byteAt, literalAt}
 use Rattle.numeral.specs.Number.Laws.{byte-past}
 use Rattle.answer.specs.declared.Named.{Named}
-use Rattle.answer.specs.Values.{named, refusedBy, keptBy, namedOne, namedFrom, complete, assigned, holding}
+use Rattle.answer.specs.Values.{named, refusedBy, keptBy, namedFrom, complete, assigned, holding}
 
 -- ---- one number of a line
-module _ (top keep : ℕ) (values : List ℕ) (x minus : ℕ) where
+module _ (top keep : ℕ) (values : List ℕ) (x : ℕ) where
   -- a variable above top
-  pub one-above : top < x → named true values ≡ namedOne top keep values x minus
-  unfolding namedOne refusedBy
-  one-above h = sym (rw (lt-ltb top x h))
+  pub refused-above : top < x → true ≡ refusedBy top keep values x
+  unfolding refusedBy
+  refused-above h = sym (rw (lt-ltb top x h))
 
   -- a variable whose value is not kept
-  pub one-other : x ≤ top → keep < x → named false values ≡ namedOne top keep values x minus
-  unfolding namedOne refusedBy keptBy
-  one-other h l = sym (rw (le-ltb top x h, lt-leb x keep l))
+  pub refused-other : x ≤ top → keep < x → false ≡ refusedBy top keep values x
+  unfolding refusedBy
+  refused-other h l = sym (rw (le-ltb top x h, lt-leb x keep l))
 
-  -- a variable named twice
-  pub one-twice : x ≤ top → x ≤ keep → (getD values (x - 1) 0 ≡ 0 → ⊥) → named true values ≡ namedOne top keep values x minus
-  unfolding namedOne refusedBy
-  one-twice h l d = sym (rw (le-ltb top x h, le-leb x keep l, ne-eqb (getD values (x - 1) 0) 0 d))
+  -- any other, which must not be named before
+  pub refused-again : x ≤ top → x ≤ keep → not (eqb (getD values (x - 1) 0) 0) ≡ refusedBy top keep values x
+  unfolding refusedBy
+  refused-again h l = sym (rw (le-ltb top x h, le-leb x keep l))
 
-  -- a variable named for the first time
-  pub one-kept : x ≤ top → x ≤ keep → getD values (x - 1) 0 ≡ 0
-      → named false (set values (x - 1) (1 + minus)) ≡ namedOne top keep values x minus
-  unfolding namedOne refusedBy keptBy
-  one-kept h l e = sym (rw (le-ltb top x h, le-leb x keep l, eq-eqb (getD values (x - 1) 0) 0 e))
+-- a value that is kept, and one that is not
+module _ (keep : ℕ) (values : List ℕ) (x minus : ℕ) where
+  pub kept-in : x ≤ keep → set values (x - 1) (1 + minus) ≡ keptBy keep values x minus
+  unfolding keptBy
+  kept-in h = sym (rw (le-leb x keep h))
 
-  -- the mark of a number is whether it is refused
-  one-mark : (s : Named) → s ≡ namedOne top keep values x minus → s .refused ≡ refusedBy top keep values x
-  unfolding namedOne
-  one-mark s e = ap (λ (n : Named). n .refused) e ∙ mark (refusedBy top keep values x) values (keptBy keep values x minus)
-    where
-      mark : (r : Bool) (a b : List ℕ) → cond r (named true a) (named false b) .refused ≡ r
-      mark true a b = refl
-      mark false a b = refl
+  pub kept-out : keep < x → values ≡ keptBy keep values x minus
+  unfolding keptBy
+  kept-out h = sym (rw (lt-leb x keep h))
 
 -- ---- one turn over the numbers of a line
 module _ (f top keep : ℕ) (t : List ℕ) (p : ℕ) (values : List ℕ) (w : Word) (read : w ≡ literalAt t (p + 1)) where
@@ -68,34 +63,26 @@ module _ (f top keep : ℕ) (t : List ℕ) (p : ℕ) (values : List ℕ) (w : Wo
   unfolding namedFrom
   name-zero h e = sym (rw (← read, eq-eqb (w .value) 0 e)) ∙ one-more h
 
-  module _ (s : Named) (done : s ≡ namedOne top keep values (w .value) (w .minus)) (d : w .value ≡ 0 → ⊥) where
+  module _ (r : Bool) (done : r ≡ refusedBy top keep values (w .value)) (d : w .value ≡ 0 → ⊥) where
     -- a number that is refused
-    pub name-refused : 0 < f → s .refused ≡ true → s ≡ namedFrom f top keep t p values
-    unfolding namedFrom namedOne
-    name-refused h e =
-        let r : refusedBy top keep values (w .value) ≡ true = sym (one-mark top keep values (w .value) (w .minus) s done) ∙ e in
-        let one : s ≡ named true values = rw r at done in
-        one ∙ sym (rw (← read, ne-eqb (w .value) 0 d, r)) ∙ one-more h
+    pub name-refused : 0 < f → r ≡ true → named true values ≡ namedFrom f top keep t p values
+    unfolding namedFrom
+    name-refused h e = sym (rw (← read, ne-eqb (w .value) 0 d, sym done ∙ e)) ∙ one-more h
 
-    -- the last number, where a newline follows
-    pub name-last : 0 < f → s .refused ≡ false → (b : ℕ) → b ≡ byteAt t (w .next) → b ≡ 10
-        → named false (s .values) ≡ namedFrom f top keep t p values
-    unfolding namedFrom namedOne
-    name-last h e b g l =
-        let r : refusedBy top keep values (w .value) ≡ false = sym (one-mark top keep values (w .value) (w .minus) s done) ∙ e in
-        let one : s ≡ named false (keptBy keep values (w .value) (w .minus)) = rw r at done in
-        ap (λ (n : Named). named false (n .values)) one
-        ∙ sym (rw (← read, ne-eqb (w .value) 0 d, r, ← g, eq-eqb b 10 l)) ∙ one-more h
+    -- the last number, where a newline follows; k are the values after it
+    pub name-last : (k : List ℕ) → 0 < f → r ≡ false → k ≡ keptBy keep values (w .value) (w .minus) → (b : ℕ) → b ≡ byteAt t (w .next) → b ≡ 10
+        → named false k ≡ namedFrom f top keep t p values
+    unfolding namedFrom
+    name-last k h e c b g l =
+        ap (named false) c ∙ sym (rw (← read, ne-eqb (w .value) 0 d, sym done ∙ e, ← g, eq-eqb b 10 l)) ∙ one-more h
 
     -- a number that others follow
-    pub name-more : 0 < f → s .refused ≡ false → (b : ℕ) → b ≡ byteAt t (w .next) → (b ≡ 10 → ⊥)
-        → namedFrom (f - 1) top keep t (w .next) (s .values) ≡ namedFrom f top keep t p values
-    unfolding namedFrom namedOne
-    name-more h e b g l =
-        let r : refusedBy top keep values (w .value) ≡ false = sym (one-mark top keep values (w .value) (w .minus) s done) ∙ e in
-        let one : s ≡ named false (keptBy keep values (w .value) (w .minus)) = rw r at done in
-        ap (λ (n : Named). namedFrom (f - 1) top keep t (w .next) (n .values)) one
-        ∙ sym (rw (← read, ne-eqb (w .value) 0 d, r, ← g, ne-eqb b 10 l)) ∙ one-more h
+    pub name-more : (k : List ℕ) → 0 < f → r ≡ false → k ≡ keptBy keep values (w .value) (w .minus) → (b : ℕ) → b ≡ byteAt t (w .next)
+        → (b ≡ 10 → ⊥) → namedFrom (f - 1) top keep t (w .next) k ≡ namedFrom f top keep t p values
+    unfolding namedFrom
+    name-more k h e c b g l =
+        ap (namedFrom (f - 1) top keep t (w .next)) c
+        ∙ sym (rw (← read, ne-eqb (w .value) 0 d, sym done ∙ e, ← g, ne-eqb b 10 l)) ∙ one-more h
 
 -- no more numbers
 pub name-none : (f top keep : ℕ) (t : List ℕ) (p : ℕ) (values : List ℕ) → f ≡ 0 → named false values ≡ namedFrom f top keep t p values
@@ -119,20 +106,15 @@ complete-all keep values h =
 
 -- ---- the value of a variable
 module _ (values : List ℕ) (x : ℕ) where
-  -- number 0, which is no variable
-  pub assigned-zero : x ≡ 0 → eqb (getD values 0 0) 1 ≡ assigned values x
+  -- a variable past the end, by its place
+  pub assigned-past : (i : ℕ) → i ≡ x - 1 → length values ≤ i → false ≡ assigned values x
   unfolding assigned
-  assigned-zero e = ap (λ (i : ℕ). eqb (getD values i 0) 1) (let z : 0 ≡ x - 1 = omega arith in z)
-
-  -- a variable past the end
-  pub assigned-past : length values < x → false ≡ assigned values x
-  unfolding assigned
-  assigned-past h = sym (ne-eqb (getD values (x - 1) 0) 1 (λ e. omega (arith, byte-past values (x - 1) (omega arith))))
+  assigned-past i e h = sym (ne-eqb (getD values (x - 1) 0) 1 (λ z. omega (arith, byte-past values (x - 1) (omega arith))))
 
   -- any other
-  pub assigned-at : eqb (getD values (x - 1) 0) 1 ≡ assigned values x
+  pub assigned-at : (i : ℕ) → i ≡ x - 1 → eqb (getD values i 0) 1 ≡ assigned values x
   unfolding assigned
-  assigned-at = refl
+  assigned-at i e = ap (λ (k : ℕ). eqb (getD values k 0) 1) e
 
 -- ---- literals and clauses
 or-false : (b : Bool) → b ≡ (b || false)

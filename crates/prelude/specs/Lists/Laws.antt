@@ -106,10 +106,11 @@ module _ {A : Type 0} where
       ap (λ (l : List A). f a ∷ l) (tab-more (suc a) n f)
       ∙ ap (λ (x : ℕ). f a ∷ (tab (suc a) n f ++ (f x ∷ []))) (let z : suc a + n ≡ a + suc n = omega arith in z)
 
-  -- a list made of a function has nothing else of it
-  pub tab-same : (a n : ℕ) (f g : ℕ → A) → ((i : ℕ) → f i ≡ g i) → tab a n f ≡ tab a n g
+  -- a list made of a function has nothing else of it than its values there
+  pub tab-same : (a n : ℕ) (f g : ℕ → A) → ((i : ℕ) → a ≤ i → i < a + n → f i ≡ g i) → tab a n f ≡ tab a n g
   tab-same a zero f g e = refl
-  tab-same a (suc n) f g e = ap₂ (λ (x : A) (l : List A). x ∷ l) (e a) (tab-same (suc a) n f g e)
+  tab-same a (suc n) f g e =
+      ap₂ (λ (x : A) (l : List A). x ∷ l) (e a (omega arith) (omega arith)) (tab-same (suc a) n f g (λ i h l. e i (omega arith) (omega arith)))
 
   -- an entry of two lists joined, in the second
   pub getD-right : (a b : List A) (k : ℕ) (d : A) → length a ≤ k → getD (a ++ b) k d ≡ getD b (k - length a) d

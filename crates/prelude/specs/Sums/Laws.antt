@@ -1,14 +1,15 @@
 -- Laws of sums by an index. Assumes nothing.
-use mathlib.Core.Path.{_≡_, refl, sym, ap, ap₂, _∙_}
-use mathlib.Core.Bool.{Bool, true, false, cond}
+use mathlib.Core.Path.{_≡_, refl, sym, ap, ap₂, _∙_, subst}
+use mathlib.Core.Bool.{Bool, true, false, not, cond}
 use mathlib.Core.List.{List, [], _++_}
 use mathlib.Core.Logic.{⊎-elim, _≢_}
 use Prim.Native.Nat.{ℕ, zero, suc, _+_, _-_, _*_, _≤_, _<_}
 use native.Mathlib.Nat.{zero-mul, suc-mul, mul-zero, mul-add, add-zero, add-suc, add-assoc, eq-or-lt-of-le, le-of-suc-le-suc}
 use native.Mathlib.Numerals.{add-one}
 use native.Mathlib.Omega.{arith}
+use lib.Dec.{T}
 use Rattle.prelude.specs.Blocks.{each}
-use Rattle.prelude.specs.Sums.{sum, pairSum, tripleSum}
+use Rattle.prelude.specs.Sums.{sum, pairSum, tripleSum, many}
 
 -- no term, and one more
 pub sum-none : (f : ℕ → ℕ) → sum 0 f ≡ 0
@@ -209,3 +210,46 @@ triple-add n f g =
     sum-same n _ _ (λ i l. sum-same (n - (i + 1)) _ _ (λ a h. sum-add (n - (i + 1 + a + 1)) (λ b. f i (i + 1 + a) (i + 1 + a + 1 + b)) (λ b. g i (i + 1 + a) (i + 1 + a + 1 + b)))
     ∙ sum-add (n - (i + 1)) (row n f n i) (row n g n i))
     ∙ sum-add n (λ i. plane n f n i (n - (i + 1))) (λ i. plane n g n i (n - (i + 1)))
+
+-- ---- how many pass a test
+-- at most all
+pub many-most : (n : ℕ) (p : ℕ → Bool) → many n p ≤ n
+unfolding many
+many-most n p = let m = sum-most n 1 (λ i. cond (p i) 1 0) (λ i h. low (p i)) in omega arith
+  where
+    low : (b : Bool) → cond {A = ℕ} b 1 0 ≤ 1
+    low true = omega arith
+    low false = omega arith
+
+-- a test that is passed wherever another is, and there are no more
+less-step : (a b : Bool) (x y : ℕ) → (T a → T b) → x ≤ y → x + cond a 1 0 ≤ y + cond b 1 0
+less-step true true x y f h = omega arith
+less-step true false x y f h = absurd (f tt)
+less-step false true x y f h = omega arith
+less-step false false x y f h = omega arith
+
+many-within : (n : ℕ) (p q : ℕ → Bool) → ((i : ℕ) → i < n → T (p i) → T (q i)) → many n p ≤ many n q
+unfolding many sum
+many-within zero p q f = omega arith
+many-within (suc n) p q f =
+    less-step (p n) (q n) (many n p) (many n q) (f n (omega arith)) (many-within n p q (λ i h. f i (omega arith)))
+
+-- and at one number that alone: fewer
+less-here : (a b : Bool) (x y : ℕ) → T (not a) → T b → x ≤ y → x + cond a 1 0 < y + cond b 1 0
+less-here true b x y f g h = absurd f
+less-here false true x y f g h = omega arith
+less-here false false x y f g h = absurd g
+
+pub many-less : (n : ℕ) (p q : ℕ → Bool) → ((i : ℕ) → i < n → T (p i) → T (q i)) → (x : ℕ) → x < n → T (not (p x)) → T (q x)
+    → many n p < many n q
+unfolding many sum
+many-less zero p q f x h a b = absurd (omega arith)
+many-less (suc n) p q f x h a b =
+    ⊎-elim
+    (λ (e : x ≡ n).
+    less-here (p n) (q n) (many n p) (many n q) (subst (λ (k : ℕ). T (not (p k))) e a) (subst (λ (k : ℕ). T (q k)) e b)
+    (many-within n p q (λ i l. f i (omega arith))))
+    (λ (l : x < n).
+    let m = less-step (p n) (q n) (suc (many n p)) (many n q) (f n (omega arith)) (many-less n p q (λ i l. f i (omega arith)) x l a b) in
+    omega arith)
+    (eq-or-lt-of-le (le-of-suc-le-suc h))

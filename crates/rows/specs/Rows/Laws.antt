@@ -222,7 +222,7 @@ onOff false = Off
 -- so are the rows of a request without free rows: they are those of its n and table alone
 pub rows-full : (q : Request) → q .free ≡ 0 → rowsOf q ≡ tab 0 (2 ^ (q .n)) (λ k. record { kind = onOff (bit (q .table) k); value = literalOn (q .n) k })
 unfolding rowsOf kindOf
-rows-full q e = tab-same 0 (2 ^ (q .n)) (rowAt q) _ (λ k. ap (λ (x : Kind). record { kind = x; value = literalOn (q .n) k }) (full k))
+rows-full q e = tab-same 0 (2 ^ (q .n)) (rowAt q) _ (λ k h l. ap (λ (x : Kind). record { kind = x; value = literalOn (q .n) k }) (full k))
   where
     full : (k : ℕ) → kindOf q k ≡ onOff (bit (q .table) k)
     full k = rw (e, bit-none 0 k (pow-pos k)) (go (bit (q .table) k))

@@ -10,7 +10,7 @@ use lib.ListN.{length, getD, replicate}
 use borrow.Author.Tests.{eq-eqb}
 use Rattle.prelude.specs.Tests.{T-eq, eq?, le?}
 use Rattle.prelude.specs.Lists.{tab, firstOf, Each}
-use Rattle.prelude.specs.Lists.Laws.{each-out}
+use Rattle.prelude.specs.Lists.Laws.{tab-same, each-out}
 use Rattle.cnf.specs.Cnf.{Assignment, Clause, Formula, clauseHolds, Sat}
 use Rattle.request.specs.declared.Request.{Request}
 use Rattle.request.specs.Numbers.{switchesMost, Good}
@@ -26,13 +26,7 @@ use Rattle.formula.specs.Count.{networkCount}
 use Rattle.formula.specs.Count.Laws.{network-length}
 use Rattle.cnf.specs.Cnf.Parts.{Sat-split}
 
--- ---- lists made of functions that agree
-tab-same : {A : Type 0} (a n : ℕ) (f g : ℕ → A) → ((i : ℕ) → a ≤ i → i < a + n → f i ≡ g i) → tab a n f ≡ tab a n g
-tab-same a zero f g h = refl
-tab-same {A} a (suc n) f g h =
-    ap₂ (λ (x : A) (l : List A). x ∷ l) (h a (omega arith) (omega arith))
-    (tab-same (suc a) n f g (λ i l u. h i (omega arith) (omega arith)))
-
+-- ---- tests that agree on a range
 -- the first of a range at which tests that agree on it hold
 first-same : (p q : ℕ → Bool) (a n : ℕ) → ((i : ℕ) → a ≤ i → i < a + n → p i ≡ q i)
     → firstOf p (tab a n (λ i. i)) ≡ firstOf q (tab a n (λ i. i))

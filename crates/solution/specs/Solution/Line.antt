@@ -14,7 +14,7 @@ use Rattle.text.specs.Text.{literalText, literalsText, lineText}
 use Rattle.text.specs.Text.Laws.{literals-none, literals-more, line-text}
 use Rattle.answer.specs.Lines.{formed, formFrom}
 use Rattle.answer.specs.Lines.Laws.{form-more, form-last}
-use Rattle.answer.specs.Values.{named, namedOne, namedFrom}
+use Rattle.answer.specs.Values.{named, refusedBy, keptBy, namedFrom}
 use Rattle.answer.specs.Values.Laws.{name-zero, name-more}
 use Rattle.solution.specs.Solution.Numerals.{past-one, byte-here, place-in, minusOf, endOf, Short, ReadAs, literal-here}
 
@@ -53,12 +53,12 @@ module _ (t : List ℕ) (p : ℕ) (l : Literal) (ls : List Literal) (short : Sho
 
   -- and so do the values, where the first is taken
   pub named-after : (f top keep : ℕ) (before after : List ℕ)
-      → named false after ≡ namedOne top keep before (l .variable) (minusOf l)
+      → false ≡ refusedBy top keep before (l .variable) → after ≡ keptBy keep before (l .variable) (minusOf l)
       → namedFrom f top keep t (endOf (p + 1) l) after ≡ namedFrom (suc f) top keep t p before
-  named-after f top keep before after e =
+  named-after f top keep before after passes e =
       ap (λ (g : ℕ). namedFrom g top keep t (endOf (p + 1) l) after) (let z : f ≡ suc f - 1 = omega arith in z)
-      ∙ name-more (suc f) top keep t p before wordHere (sym (first-read .read)) (named false after) e
-      (λ z. omega (arith, short .0)) (omega arith) refl 32 (sym space-after) (λ z. omega arith)
+      ∙ name-more (suc f) top keep t p before wordHere (sym (first-read .read)) false passes
+      (λ z. omega (arith, short .0)) after (omega arith) refl e 32 (sym space-after) (λ z. omega arith)
 
 -- the 0 at the end
 module _ (t : List ℕ) (p : ℕ) (here : Spaced t p []) where

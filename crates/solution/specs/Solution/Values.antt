@@ -1,6 +1,6 @@
 -- The values that a line of every variable names: those of the assignment, for the X and L variables. Assumes nothing.
 use mathlib.Core.Path.{_≡_, refl, sym, ap, _∙_}
-use mathlib.Core.Bool.{Bool, true, false, cond}
+use mathlib.Core.Bool.{Bool, true, false, not, cond}
 use mathlib.Core.List.{List, _++_}
 use mathlib.Core.Logic.{_⊎_, inl, inr}
 use Prim.Native.Nat.{ℕ, zero, suc, _+_, _-_, _≤_, _<_}
@@ -9,13 +9,14 @@ use native.Mathlib.Omega.{arith}
 use lib.Dec.{eqb}
 use lib.ListN.{getD, set, replicate, List·getD-append}
 use lib.Seq.{getD-at}
+use borrow.Author.Tests.{eq-eqb}
 use Rattle.prelude.specs.Tests.{le?}
 use Rattle.prelude.specs.Lists.{tab, Each}
 use Rattle.prelude.specs.Lists.Laws.{length-tab, getD-tab}
 use Rattle.cnf.specs.Cnf.{Assignment, pos, neg}
 use Rattle.cnf.specs.declared.Literal.{Literal}
-use Rattle.answer.specs.Values.{named, namedOne, namedFrom, complete, assigned}
-use Rattle.answer.specs.Values.Laws.{one-other, one-kept, complete-all}
+use Rattle.answer.specs.Values.{named, refusedBy, keptBy, namedFrom, complete, assigned}
+use Rattle.answer.specs.Values.Laws.{refused-other, refused-again, kept-in, kept-out, complete-all}
 use Rattle.answer.specs.Decode.Laws.{fill-more}
 use Rattle.formula.specs.Count.{valuesMost}
 use Rattle.solution.specs.Solution.{truth, truths}
@@ -96,7 +97,8 @@ module _ (α : Assignment) where
     record Taken (k c : ℕ) : Type 0 where
       now : ℕ
       kept : Kept (suc k) now
-      step : named false (valuesTo now) ≡ namedOne top keep (valuesTo c) (suc k) (minusOf (truth α (suc k)))
+      passes : false ≡ refusedBy top keep (valuesTo c) (suc k)
+      step : valuesTo now ≡ keptBy keep (valuesTo c) (suc k) (minusOf (truth α (suc k)))
 
     -- each is
     next-taken : (k c : ℕ) → k < top → Kept k c → Taken k c
@@ -108,11 +110,12 @@ module _ (α : Assignment) where
             record {
               now = suc k;
               kept = inl (l, refl);
+              passes = rw e (
+                  ap not (sym (eq-eqb (getD (valuesTo k) (suc k - 1) 0) 0 (ap (λ (i : ℕ). getD (valuesTo k) i 0) z ∙ next-unnamed k (omega arith))))
+                  ∙ refused-again top keep (valuesTo k) (suc k) h l);
               step = rw e (
-                  ap (named false) (sym (next-named k (omega arith))
-                  ∙ ap (λ (i : ℕ). set (valuesTo k) i (valueAt k)) (sym z))
-                  ∙ one-kept top keep (valuesTo k) (suc k) (minusOf (truth α (suc k))) h l
-                  (ap (λ (i : ℕ). getD (valuesTo k) i 0) z ∙ next-unnamed k (omega arith)));
+                  sym (next-named k (omega arith)) ∙ ap (λ (i : ℕ). set (valuesTo k) i (valueAt k)) (sym z)
+                  ∙ kept-in keep (valuesTo k) (suc k) (minusOf (truth α (suc k))) l);
             }
 
         high : (c ≡ keep) → keep < suc k → Taken k c
@@ -120,7 +123,8 @@ module _ (α : Assignment) where
             record {
               now = keep;
               kept = inr (omega arith, refl);
-              step = rw e (one-other top keep (valuesTo keep) (suc k) (minusOf (truth α (suc k))) h l);
+              passes = rw e (refused-other top keep (valuesTo keep) (suc k) h l);
+              step = rw e (kept-out keep (valuesTo keep) (suc k) (minusOf (truth α (suc k))) l);
             }
 
         go : (suc k ≤ keep) ⊎ (keep < suc k) → Kept k c → Taken k c
@@ -146,7 +150,8 @@ module _ (α : Assignment) where
         named-line t n (suc k) (r .now) f (endOf (p + 1) v) (omega arith) (r .kept) (omega arith) (d .1)
         (line-after t p v ls (d .0) h)
         ∙ named-after t p v ls (d .0) h f top keep (valuesTo c) (valuesTo (r .now))
-        (r .step ∙ ap (λ (x : ℕ). namedOne top keep (valuesTo c) x (minusOf v)) (sym (truth-variable α (suc k))))
+        (r .passes ∙ ap (refusedBy top keep (valuesTo c)) (sym (truth-variable α (suc k))))
+        (r .step ∙ ap (λ (x : ℕ). keptBy keep (valuesTo c) x (minusOf v)) (sym (truth-variable α (suc k))))
 
     -- and so is the whole line
     pub values-line : (t : List ℕ) (f p : ℕ) → top < f → top < 1000000000 → Spaced t p (truths top α)

@@ -45,7 +45,7 @@ loop-again c =
 returns : tie.Need-returns Inv-loop μ-loop
 returns c =
     let l = c .before .loop in
-    let s = c .before .before in
+    let s = c .before .before .before in
     let e : l .s ≡ s .args .r = omega arith in
     fill-end _ switchesMost (l .s) (s .args .r) e (l .inv .1)
 

@@ -23,7 +23,7 @@ enum-known-c c = search needs
 
 run-holds-requires : tie.Need-run-holds-requires
 run-holds-requires c κs =
-    subst (λ (x : Clause). Each (λ l. l .variable ≤ variablesMost) (literalsOf x)) (c .before .c .given .1) (c .before .before .before .pre)
+    subst (λ (x : Clause). Each (λ l. l .variable ≤ variablesMost) (literalsOf x)) (c .before .c .given .1) (c .before .before .before .before .pre)
 
 enum-known-c-2 : tie.Need-enum-known-c-2
 enum-known-c-2 c = search needs
@@ -39,8 +39,8 @@ literal-holds-requires-2 c κs = search needs
 
 returns : tie.Need-returns
 returns c =
-    let s = c .before .before .before .before .before in
-    let α = assigned (s .args .values) in
+    let s = c .before .before .before .before .before .before in
+    let α = assigned (s .args .values .now) in
     let v = c .before .before .before .c3 .given in
     same α (s .args .c) _ _ (v .1) (holds-first α (v .0 .0) (v .0 .1 .0 ∷ []) _ (c .before .literal-holds2 .ensures) (c .if1 .taken))
 
@@ -55,8 +55,8 @@ literal-holds-requires-4 c κs = search needs
 
 returns-2 : tie.Need-returns-2
 returns-2 c =
-    let s = c .before .before .before .before .before in
-    let α = assigned (s .args .values) in
+    let s = c .before .before .before .before .before .before in
+    let α = assigned (s .args .values .now) in
     let v = c .before .before .before .c4 .given in
     same α (s .args .c) _ _ (v .1) (holds-first α (v .0 .0) (v .0 .1 .0 ∷ v .0 .1 .1 .0 ∷ []) _ (c .before .literal-holds4 .ensures) (c .if2 .taken))
 
@@ -65,8 +65,8 @@ literal-holds-requires-5 c κs = search needs
 
 returns-3 : tie.Need-returns-3
 returns-3 c =
-    let s = c .before .before .before .before .before .before .before in
-    let α = assigned (s .args .values) in
+    let s = c .before .before .before .before .before .before .before .before in
+    let α = assigned (s .args .values .now) in
     let v = c .before .before .before .before .before .c4 .given in
     same α (s .args .c) _ _ (v .1)
     (holds-next α (v .0 .0) (v .0 .1 .0 ∷ v .0 .1 .1 .0 ∷ []) _ _ (c .before .before .before .literal-holds4 .ensures) (c .before .before .if2 .left)
@@ -77,21 +77,21 @@ literal-holds-requires-6 c κs = search needs
 
 returns-4 : tie.Need-returns-4
 returns-4 c =
-    let s = c .before .before .before .before in
-    let α = assigned (s .args .values) in
+    let s = c .before .before .before .before .before in
+    let α = assigned (s .args .values .now) in
     same α (s .args .c) _ _ (c .before .before .c .given .1) (c .run-holds .ensures)
 
 returns-5 : tie.Need-returns-5
 returns-5 c =
-    let s = c .before .before .before .before in
-    let α = assigned (s .args .values) in
+    let s = c .before .before .before .before .before in
+    let α = assigned (s .args .values .now) in
     let v = c .before .before .c2 .given in
     same α (s .args .c) _ _ (v .1) (holds-one α (v .0 .0) _ (c .literal-holds .ensures))
 
 returns-6 : tie.Need-returns-6
 returns-6 c =
-    let s = c .before .before .before .before .before .before in
-    let α = assigned (s .args .values) in
+    let s = c .before .before .before .before .before .before .before in
+    let α = assigned (s .args .values .now) in
     let v = c .before .before .before .before .c3 .given in
     same α (s .args .c) _ _ (v .1)
     (holds-next α (v .0 .0) (v .0 .1 .0 ∷ []) _ _ (c .before .before .literal-holds2 .ensures) (c .before .if1 .left)
@@ -99,8 +99,8 @@ returns-6 c =
 
 returns-7 : tie.Need-returns-7
 returns-7 c =
-    let s = c .before .before .before .before .before .before .before .before in
-    let α = assigned (s .args .values) in
+    let s = c .before .before .before .before .before .before .before .before .before in
+    let α = assigned (s .args .values .now) in
     let v = c .before .before .before .before .before .before .c4 .given in
     same α (s .args .c) _ _ (v .1)
     (holds-next α (v .0 .0) (v .0 .1 .0 ∷ v .0 .1 .1 .0 ∷ []) _ _ (c .before .before .before .before .literal-holds4 .ensures) (c .before .before .before .if2 .left)

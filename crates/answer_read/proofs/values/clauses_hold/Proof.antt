@@ -33,7 +33,7 @@ network-clause-requires c κs = search needs
 clause-holds-requires : tie.Need-clause-holds-requires Inv-loop μ-loop
 clause-holds-requires c κs =
     let l = c .before .before in
-    rw (c .network-clause .ensures .0 ∙ network-number _ (l .before .before .pre) (l .loop .k) (omega (arith, l .before .network-count .ensures .0)))
+    rw (c .network-clause .ensures .0 ∙ network-number _ (l .before .before .before .pre) (l .loop .k) (omega (arith, l .before .network-count .ensures .0)))
     (clause-low _ _)
 
 returns : tie.Need-returns Inv-loop μ-loop
@@ -42,7 +42,7 @@ returns c =
     let l = n .before .before in
     let f = l .before .network-count .ensures .0 in
     holding-not _ _ _ (l .loop .k) _ _ (omega (arith, f))
-    (n .network-clause .ensures .0 ∙ network-number _ (l .before .before .pre) (l .loop .k) (omega (arith, f)))
+    (n .network-clause .ensures .0 ∙ network-number _ (l .before .before .before .pre) (l .loop .k) (omega (arith, f)))
     (c .before .clause-holds .ensures) (not-true _ (c .if1 .taken))
 
 add-k : tie.Need-add-k Inv-loop μ-loop
@@ -58,7 +58,7 @@ loop-again c =
     let f = l .before .network-count .ensures .0 in
     let holds =
     holding-one _ (l .loop .k) _ (l .loop .k) _ _
-    (n .network-clause .ensures .0 ∙ network-number _ (l .before .before .pre) (l .loop .k) (omega (arith, f)))
+    (n .network-clause .ensures .0 ∙ network-number _ (l .before .before .before .pre) (l .loop .k) (omega (arith, f)))
     (c .before .clause-holds .ensures) (not-false _ (c .if1 .left)) in
     (search needs, below-more _ _ (l .loop .inv .1) holds)
 

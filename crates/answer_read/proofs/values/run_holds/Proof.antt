@@ -21,7 +21,7 @@ loop-holds : tie.Need-loop-holds Inv-loop μ-loop
 loop-holds c = (search needs, below-none _)
 
 add-is-true : tie.Need-add-is-true Inv-loop μ-loop
-add-is-true c = omega (arith, low-at _ _ _ (c .before .before .pre) (c .loop-test .taken))
+add-is-true c = omega (arith, low-at _ _ _ (c .before .before .before .pre) (c .loop-test .taken))
 
 is-true-requires : tie.Need-is-true-requires Inv-loop μ-loop
 is-true-requires c κs = search needs

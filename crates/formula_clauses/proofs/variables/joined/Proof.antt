@@ -1,21 +1,21 @@
--- X(i,j) and X(j,i) are one variable. Assumes nothing.
-use Rattle.formula.specs.Formula.Laws.{joined-low, joined-high}
-use mathlib.Core.Path.{sym, _∙_}
+-- 2N − 1 is 4r + 3. Assumes nothing.
+use Rattle.formula.specs.Formula.{terminals}
+use native.Mathlib.Omega.{arith}
 use borrow.Author.Needs.{needs}
 use Rattle.formula_clauses.proofs.variables.joined.Statement.{statement}
 use Rattle.formula_clauses.proofs.variables.joined.Tie as tie
 
-joined-up-requires : tie.Need-joined-up-requires
-joined-up-requires c κs = search needs
+mul-joined-by : tie.Need-mul-joined-by
+mul-joined-by c = search needs
+
+add-joined-by : tie.Need-add-joined-by
+add-joined-by c = search needs
+
+joined-by-requires : tie.Need-joined-by-requires
+joined-by-requires c κs = search needs
 
 returns : tie.Need-returns
-returns c = c .joined-up .ensures .0 ∙ sym (joined-low _ _ _ (c .before .if1 .taken))
-
-joined-up-requires-2 : tie.Need-joined-up-requires-2
-joined-up-requires-2 c κs = search needs
-
-returns-2 : tie.Need-returns-2
-returns-2 c = c .joined-up2 .ensures .0 ∙ sym (joined-high _ _ _ (c .before .if1 .left))
+returns c = c .joined-by .ensures (terminals (c .before .args .r)) (omega arith)
 
 pub joined-spec : {M : Type 1} → statement M
-joined-spec = tie.close (tie.spec joined-up-requires returns joined-up-requires-2 returns-2)
+joined-spec = tie.close (tie.spec mul-joined-by add-joined-by joined-by-requires returns)

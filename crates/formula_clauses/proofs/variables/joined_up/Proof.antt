@@ -11,16 +11,10 @@ use Rattle.formula_clauses.proofs.variables.joined_up.Statement.{statem
 use Rattle.formula_clauses.proofs.variables.joined_up.Tie as tie
 
 -- what is left of 2N − 1 past i, and its product with i
-span : (r i x : ℕ) → r ≤ 255 → ((i < 4 * r + 3) × (x ≡ 4 * r + 3 - i)) ⊎ ((4 * r + 3 ≤ i) × (x ≡ 0))
-    → (x ≡ 2 * (2 * r + 2) - i - 1) × (i * x ≤ 1046529)
-span r i x h (inl (l, e)) = (omega arith, joined-most i x (omega arith) (omega arith))
-span r i x h (inr (l, e)) = (omega arith, rw (e, mul-zero) (omega arith))
-
-mul-high : tie.Need-mul-high
-mul-high c = search needs
-
-add-high : tie.Need-add-high
-add-high c = search needs
+span : (high i x : ℕ) → high ≤ 1023 → ((i < high) × (x ≡ high - i)) ⊎ ((high ≤ i) × (x ≡ 0))
+    → (x ≡ high - i) × (i * x ≤ 1046529)
+span high i x h (inl (l, e)) = (e, joined-most i x (omega arith) (omega arith))
+span high i x h (inr (l, e)) = (omega arith, rw (e, mul-zero) (omega arith))
 
 sub-span : tie.Need-sub-span
 sub-span c = search needs
@@ -38,9 +32,9 @@ returns : tie.Need-returns
 unfolding pairNumber
 returns c =
     let a = c .before .before .args in
-    let s = span (a .r) (a .i) (c .before .if1 .span) (c .before .before .pre .0) (⊎-elim (λ t. inl (t .0 .taken, t .1)) (λ t. inr (t .0 .left, t .1)) (c .before .if1 .came)) in
-    (ap (λ (x : ℕ). a .i * x / 2 + (a .j - a .i)) (s .0), omega arith)
+    let s = span (a .high) (a .i) (c .before .if1 .span) (c .before .before .pre .0) (⊎-elim (λ t. inl (t .0 .taken, t .1)) (λ t. inr (t .0 .left, t .1)) (c .before .if1 .came)) in
+    (λ N e. ap (λ (x : ℕ). a .i * x / 2 + (a .j - a .i)) (let z : c .before .if1 .span ≡ 2 * N - a .i - 1 = omega (arith, s .0) in z), omega arith)
 
 pub joined-up-spec : {M : Type 1} → statement M
 joined-up-spec =
-    tie.close (tie.spec mul-high add-high sub-span mul-result sub-result add-result returns)
+    tie.close (tie.spec sub-span mul-result sub-result add-result returns)
