@@ -1,5 +1,5 @@
 // Answers (document 01, "Reading an answer"): what a solver's text gives, and the network that it describes. The definitions and their
-// laws are in specs; the code that reads is in the crate answer_read.
+// laws are in specs; the code that reads is in the crate answer_read, and the search for nets in clusters.
 //
 // Lines are read from the top. Of the values that v lines name, only those of X and L variables are kept, in an array by value: 0
 // unnamed, 1 true, 2 false. Values of W, Z and S are never looked at. A refused reading gives the network of zeros.

@@ -15,7 +15,7 @@ fn pair_count(r: u32) -> u32
 // X(i,j), i < j, of N terminals, by 2N - 1; where i is past the terminals it takes none of them away
 fn joined_up(high: u32, i: u32, j: u32) -> u32
     requires { ⌜ (high ≤ 1023) × (i ≤ j) × (j ≤ 65535) ⌝ }
-    ensures { λ x. ⌜ ((N : ℕ) → high ≡ 2 * N - 1 → x ≡ pairNumber N i j) × (x < 1000000) ⌝ }
+    ensures { λ x. ⌜ ((N : ℕ) → high ≡ 2 * N - 1 → x ≡ pairNumber N i j) ⌝ }
 {
     let span = if i < high { high - i } else { 0 };
     i * span / 2 + (j - i)

@@ -74,8 +74,8 @@ module _ (N : ℕ) (α : Assignment) (fits : N ≤ terminalsMost) where
     room-left = let f = fewer in let r = q .room in omega arith
 
     -- entries of the labels and of the queue once it is visited
-    label-same-entry : labelIn (set (s .labels) j start) j ≡ start
-    label-same-entry = getD-set-same (s .labels) j start 0 (let e = q .labels-long in omega arith)
+    label-entry : labelIn (set (s .labels) j start) j ≡ start
+    label-entry = getD-set-same (s .labels) j start 0 (let e = q .labels-long in omega arith)
 
     queue-entry : queueAt (entered start j s) (s .tail) ≡ j
     unfolding entered
@@ -94,10 +94,6 @@ module _ (N : ℕ) (α : Assignment) (fits : N ≤ terminalsMost) where
     unfolding entered
     visited-still i t = mark-stays (s .visited) j i inside t
 
-    -- a place of the queue, or its end
-    place : (P : ℕ → Type 0) → ((p : ℕ) → p < s .tail → P p) → P (s .tail) → (p : ℕ) → p < s .tail + 1 → P p
-    place P old end p h = below-more P (s .tail) old end p h
-
     -- a terminal of the cluster is visited
     pub searching-more : chainLabel N α j ≡ start → Searching N α start (entered start j s)
     unfolding entered
@@ -108,7 +104,7 @@ module _ (N : ℕ) (α : Assignment) (fits : N ≤ terminalsMost) where
           queue-long = length-set (s .queue) (s .tail) j ∙ q .queue-long;
           earlier = λ i h e. visited-still i (q .earlier i h e);
           reached = λ i h t. ⊎-elim (λ (e : i ≡ j). inr (s .tail, omega arith, queue-entry ∙ sym e)) (λ (d : i ≡ j → ⊥). old i h d t) (eq? i j);
-          queued = place (λ p. (queueAt (entered start j s) p < N) × (chainLabel N α (queueAt (entered start j s) p) ≡ start))
+          queued = below-more (λ p. (queueAt (entered start j s) p < N) × (chainLabel N α (queueAt (entered start j s) p) ≡ start)) (s .tail)
               (λ p h. subst (λ (x : ℕ). (x < N) × (chainLabel N α x ≡ start)) (sym (queue-other p h)) (q .queued p h))
               (subst (λ (x : ℕ). (x < N) × (chainLabel N α x ≡ start)) (sym queue-entry) (low, own));
           named = λ i h. ⊎-elim (λ (e : i ≡ j). here i e) (λ (d : i ≡ j → ⊥). there i h d) (eq? i j);
@@ -126,7 +122,7 @@ module _ (N : ℕ) (α : Assignment) (fits : N ≤ terminalsMost) where
         here : (i : ℕ) → i ≡ j → labelIn (set (s .labels) j start) i ≡ cond (visitedAt (set (s .visited) j true) i) (chainLabel N α i) 0
         here i e =
             subst (λ (k : ℕ). labelIn (set (s .labels) j start) k ≡ cond (visitedAt (set (s .visited) j true) k) (chainLabel N α k) 0) (sym e)
-            (label-same-entry ∙ sym own ∙ sym (cond-true (visitedAt (set (s .visited) j true) j) (chainLabel N α j) 0 (mark-set (s .visited) j inside)))
+            (label-entry ∙ sym own ∙ sym (cond-true (visitedAt (set (s .visited) j true) j) (chainLabel N α j) 0 (mark-set (s .visited) j inside)))
 
         there : (i : ℕ) → i < N → (i ≡ j → ⊥)
             → labelIn (set (s .labels) j start) i ≡ cond (visitedAt (set (s .visited) j true) i) (chainLabel N α i) 0

@@ -33,7 +33,7 @@ unfolding pairNumber
 returns c =
     let a = c .before .before .args in
     let s = span (a .high) (a .i) (c .before .if1 .span) (c .before .before .pre .0) (⊎-elim (λ t. inl (t .0 .taken, t .1)) (λ t. inr (t .0 .left, t .1)) (c .before .if1 .came)) in
-    (λ N e. ap (λ (x : ℕ). a .i * x / 2 + (a .j - a .i)) (let z : c .before .if1 .span ≡ 2 * N - a .i - 1 = omega (arith, s .0) in z), omega arith)
+    λ N e. ap (λ (x : ℕ). a .i * x / 2 + (a .j - a .i)) (let z : c .before .if1 .span ≡ 2 * N - a .i - 1 = omega (arith, s .0) in z)
 
 pub joined-up-spec : {M : Type 1} → statement M
 joined-up-spec =
