@@ -33,14 +33,17 @@ entered start j s =
     }
 
 module _ (N : ℕ) (α : Assignment) where
-  -- of N terminals those with a label below start are visited, and no others; a visited terminal has its label, and every other entry
-  -- is 0
-  pub record Labelled (start : ℕ) (visited : List Bool) (labels : List ℕ) : Type 0 where
+  -- a terminal that is visited has its label, and every other entry is 0
+  pub record Agree (visited : List Bool) (labels : List ℕ) : Type 0 where
     pub visited-long : length visited ≡ terminalsMost
     pub labels-long : length labels ≡ terminalsMost
-    pub marked : (i : ℕ) → i < N → visitedAt visited i ≡ ltb (chainLabel N α i) start
     pub named : (i : ℕ) → i < N → labelIn labels i ≡ cond (visitedAt visited i) (chainLabel N α i) 0
     pub rest : (i : ℕ) → N ≤ i → i < terminalsMost → labelIn labels i ≡ 0
+
+  -- between two searches: of N terminals those with a label below start are visited, and no others
+  pub record Labelled (start : ℕ) (visited : List Bool) (labels : List ℕ) : Type 0 where
+    pub agree : Agree visited labels
+    pub marked : (i : ℕ) → i < N → visitedAt visited i ≡ ltb (chainLabel N α i) start
 
   -- how many of N terminals are not visited
   abbrev pub unvisited : List Bool → ℕ
@@ -49,14 +52,11 @@ module _ (N : ℕ) (α : Assignment) where
   -- within the search from start: the terminals with a label below start are visited, those in the queue have the label start, and no
   -- others are visited; with those that are not, the queue's are at most N
   pub record Searching (start : ℕ) (s : Search) : Type 0 where
-    pub visited-long : length (s .visited) ≡ terminalsMost
-    pub labels-long : length (s .labels) ≡ terminalsMost
+    pub agree : Agree (s .visited) (s .labels)
     pub queue-long : length (s .queue) ≡ terminalsMost
     pub earlier : (i : ℕ) → i < N → chainLabel N α i < start → T (visitedAt (s .visited) i)
     pub reached : (i : ℕ) → i < N → T (visitedAt (s .visited) i) → (chainLabel N α i < start) ⊎ ((p : ℕ) × (p < s .tail) × (queueAt s p ≡ i))
     pub queued : (p : ℕ) → p < s .tail → (queueAt s p < N) × (chainLabel N α (queueAt s p) ≡ start)
-    pub named : (i : ℕ) → i < N → labelIn (s .labels) i ≡ cond (visitedAt (s .visited) i) (chainLabel N α i) 0
-    pub rest : (i : ℕ) → N ≤ i → i < terminalsMost → labelIn (s .labels) i ≡ 0
     pub room : s .tail + unvisited (s .visited) ≤ N
 
   -- a search gone further from s: what is visited stays so, what is in the queue stays there, and of the first count terminals those

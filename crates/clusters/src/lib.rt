@@ -26,11 +26,11 @@ ghost use Rattle.clusters.specs.Chain.{chainLabel, chainLabels};
 ghost use Rattle.clusters.specs.Search.{entered, visitedAt, Labelled, Searching, Further};
 
 // A search: the nodes that are visited, by it or by one before; their labels; the queue, and how many nodes have entered it.
-pub struct Search {
-    pub visited: [bool; TERMINALS],
-    pub labels: Labels,
-    pub queue: [u8; TERMINALS],
-    pub tail: u8,
+struct Search {
+    visited: [bool; TERMINALS],
+    labels: Labels,
+    queue: [u8; TERMINALS],
+    tail: u8,
 }
 
 // Definition 2, the second kind of edge: whether the internal edge between two of count nodes is there.

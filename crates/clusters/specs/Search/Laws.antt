@@ -7,10 +7,10 @@ use Prim.Native.Nat.{ℕ, _+_, _≤_, _<_}
 use native.Mathlib.Omega.{arith}
 use lib.Dec.{T, T-not, not-T, ltb, ltb→lt, lt→ltb}
 use lib.ListN.{length, set, replicate, length-set, length-replicate, getD-replicate}
-use lib.Arith.{le→nltb}
 use lib.Seq.{getD-set-same, getD-set-other, ext-getD}
+use borrow.Author.Tests.{ltb-false, le-ltb}
 use borrow.Author.Count.{below-none, below-more}
-use Rattle.prelude.specs.Tests.{F-eq, T-of, tests-eq, eq?, le?, cond-true}
+use Rattle.prelude.specs.Tests.{T-of, tests-eq, eq?, le?, cond-true}
 use Rattle.prelude.specs.Sums.Laws.{many-most, many-less}
 use Rattle.cnf.specs.Cnf.{Assignment}
 use Rattle.formula.specs.Formula.{X}
@@ -32,10 +32,6 @@ mark-stays l j i h t =
     (λ (d : i ≡ j → ⊥). subst T (sym (getD-set-other l j i true false d)) t)
     (eq? i j)
 
--- a number that is not below one is at least it
-at-least : (x y : ℕ) → ltb x y ≡ false → y ≤ x
-at-least x y e = ⊎-elim (λ (l : y ≤ x). l) (λ (l : x < y). absurd (subst T e (lt→ltb x y l))) (le? y x)
-
 module _ (N : ℕ) (α : Assignment) (fits : N ≤ terminalsMost) where
   -- ---- within a cluster
   -- before its first terminal
@@ -44,14 +40,11 @@ module _ (N : ℕ) (α : Assignment) (fits : N ≤ terminalsMost) where
       → Searching N α start (record { visited = visited; labels = labels; queue = queue; tail = 0 })
   searching-first start visited labels queue long l =
       record {
-        visited-long = l .visited-long;
-        labels-long = l .labels-long;
+        agree = l .agree;
         queue-long = long;
         earlier = λ i h e. subst T (sym (l .marked i h)) (lt→ltb (chainLabel N α i) start e);
         reached = λ i h t. inl (ltb→lt (chainLabel N α i) start (subst T (l .marked i h) t));
         queued = λ p h. absurd (omega arith);
-        named = l .named;
-        rest = l .rest;
         room = let most = many-most N (λ i. not (visitedAt visited i)) in omega arith;
       }
 
@@ -61,7 +54,7 @@ module _ (N : ℕ) (α : Assignment) (fits : N ≤ terminalsMost) where
     after = set (s .visited) j true
 
     inside : j < length (s .visited)
-    inside = let e = q .visited-long in omega arith
+    inside = let e = q .agree .visited-long in omega arith
 
     -- one fewer is not visited, so the queue has room for it
     fewer : unvisited N α after < unvisited N α (s .visited)
@@ -75,7 +68,7 @@ module _ (N : ℕ) (α : Assignment) (fits : N ≤ terminalsMost) where
 
     -- entries of the labels and of the queue once it is visited
     label-entry : labelIn (set (s .labels) j start) j ≡ start
-    label-entry = getD-set-same (s .labels) j start 0 (let e = q .labels-long in omega arith)
+    label-entry = getD-set-same (s .labels) j start 0 (let e = q .agree .labels-long in omega arith)
 
     queue-entry : queueAt (entered start j s) (s .tail) ≡ j
     unfolding entered
@@ -99,16 +92,19 @@ module _ (N : ℕ) (α : Assignment) (fits : N ≤ terminalsMost) where
     unfolding entered
     searching-more own =
         record {
-          visited-long = length-set (s .visited) j true ∙ q .visited-long;
-          labels-long = length-set (s .labels) j start ∙ q .labels-long;
+          agree =
+              record {
+                visited-long = length-set (s .visited) j true ∙ q .agree .visited-long;
+                labels-long = length-set (s .labels) j start ∙ q .agree .labels-long;
+                named = λ i h. ⊎-elim (λ (e : i ≡ j). here i e) (λ (d : i ≡ j → ⊥). there i h d) (eq? i j);
+                rest = λ i h k. getD-set-other (s .labels) j i start 0 (λ e. omega arith) ∙ q .agree .rest i h k;
+              };
           queue-long = length-set (s .queue) (s .tail) j ∙ q .queue-long;
           earlier = λ i h e. visited-still i (q .earlier i h e);
           reached = λ i h t. ⊎-elim (λ (e : i ≡ j). inr (s .tail, omega arith, queue-entry ∙ sym e)) (λ (d : i ≡ j → ⊥). old i h d t) (eq? i j);
           queued = below-more (λ p. (queueAt (entered start j s) p < N) × (chainLabel N α (queueAt (entered start j s) p) ≡ start)) (s .tail)
               (λ p h. subst (λ (x : ℕ). (x < N) × (chainLabel N α x ≡ start)) (sym (queue-other p h)) (q .queued p h))
               (subst (λ (x : ℕ). (x < N) × (chainLabel N α x ≡ start)) (sym queue-entry) (low, own));
-          named = λ i h. ⊎-elim (λ (e : i ≡ j). here i e) (λ (d : i ≡ j → ⊥). there i h d) (eq? i j);
-          rest = λ i h k. getD-set-other (s .labels) j i start 0 (λ e. omega arith) ∙ q .rest i h k;
           room = let f = fewer in let r = q .room in omega arith;
         }
       where
@@ -127,7 +123,7 @@ module _ (N : ℕ) (α : Assignment) (fits : N ≤ terminalsMost) where
         there : (i : ℕ) → i < N → (i ≡ j → ⊥)
             → labelIn (set (s .labels) j start) i ≡ cond (visitedAt (set (s .visited) j true) i) (chainLabel N α i) 0
         there i h d =
-            getD-set-other (s .labels) j i start 0 d ∙ q .named i h
+            getD-set-other (s .labels) j i start 0 d ∙ q .agree .named i h
             ∙ ap (λ (b : Bool). cond b (chainLabel N α i) 0) (sym (getD-set-other (s .visited) j i true false d))
 
   -- ---- the neighbours of a terminal of the queue
@@ -218,13 +214,9 @@ module _ (N : ℕ) (α : Assignment) (fits : N ≤ terminalsMost) where
 
     pub cluster-labelled : Labelled N α (start + 1) (s .visited) (s .labels)
     cluster-labelled =
-        let q = l .searching in
         record {
-          visited-long = q .visited-long;
-          labels-long = q .labels-long;
+          agree = l .searching .agree;
           marked = λ i h. tests-eq (visitedAt (s .visited) i) (ltb (chainLabel N α i) (start + 1)) (to i h) (from i h);
-          named = q .named;
-          rest = q .rest;
         }
       where
         to : (i : ℕ) → i < N → T (visitedAt (s .visited) i) → T (ltb (chainLabel N α i) (start + 1))
@@ -249,11 +241,14 @@ module _ (N : ℕ) (α : Assignment) (fits : N ≤ terminalsMost) where
   pub labelled-none : Labelled N α 0 (replicate terminalsMost false) (replicate terminalsMost 0)
   labelled-none =
       record {
-        visited-long = length-replicate terminalsMost false;
-        labels-long = length-replicate {A = ℕ} terminalsMost 0;
-        marked = λ i h. unmarked i h ∙ sym (F-eq (ltb (chainLabel N α i) 0) (le→nltb (chainLabel N α i) 0 (omega arith)));
-        named = λ i h. getD-replicate terminalsMost i 0 0 (omega arith) ∙ sym (ap (λ (b : Bool). cond b (chainLabel N α i) 0) (unmarked i h));
-        rest = λ i h k. getD-replicate terminalsMost i 0 0 k;
+        agree =
+            record {
+              visited-long = length-replicate terminalsMost false;
+              labels-long = length-replicate {A = ℕ} terminalsMost 0;
+              named = λ i h. getD-replicate terminalsMost i 0 0 (omega arith) ∙ sym (ap (λ (b : Bool). cond b (chainLabel N α i) 0) (unmarked i h));
+              rest = λ i h k. getD-replicate terminalsMost i 0 0 k;
+            };
+        marked = λ i h. unmarked i h ∙ sym (le-ltb (chainLabel N α i) 0 (omega arith));
       }
     where
       unmarked : (i : ℕ) → i < N → visitedAt (replicate terminalsMost false) i ≡ false
@@ -264,7 +259,7 @@ module _ (N : ℕ) (α : Assignment) (fits : N ≤ terminalsMost) where
       → visitedAt visited start ≡ false → chainLabel N α start ≡ start
   labelled-start start visited labels l h e =
       let low = label-low N α start h in
-      let high = at-least (chainLabel N α start) start (sym (l .marked start h) ∙ e) in
+      let high = ltb-false (chainLabel N α start) start (sym (l .marked start h) ∙ e) in
       omega arith
 
   -- the cluster of a visited terminal is
@@ -272,13 +267,10 @@ module _ (N : ℕ) (α : Assignment) (fits : N ≤ terminalsMost) where
       → visitedAt visited start ≡ true → Labelled N α (start + 1) visited labels
   labelled-skip start visited labels l h e =
       record {
-        visited-long = l .visited-long;
-        labels-long = l .labels-long;
+        agree = l .agree;
         marked = λ i k. l .marked i k ∙ tests-eq (ltb (chainLabel N α i) start) (ltb (chainLabel N α i) (start + 1))
             (λ t. let z = ltb→lt (chainLabel N α i) start t in lt→ltb (chainLabel N α i) (start + 1) (omega arith))
             (λ t. let z = ltb→lt (chainLabel N α i) (start + 1) t in lt→ltb (chainLabel N α i) start (other i k z));
-        named = l .named;
-        rest = l .rest;
       }
     where
       below : chainLabel N α start < start
@@ -298,12 +290,12 @@ module _ (N : ℕ) (α : Assignment) (fits : N ≤ terminalsMost) where
   -- all are: the labels are those of chains
   pub labelled-all : (visited : List Bool) (labels : List ℕ) → Labelled N α N visited labels → labels ≡ chainLabels N α
   labelled-all visited labels l =
-      ext-getD 0 labels (chainLabels N α) (l .labels-long ∙ sym (labels-long N α fits)) (λ i h.
-      let long = l .labels-long in
-      ⊎-elim (λ (k : N ≤ i). l .rest i k (omega arith) ∙ sym (labels-rest N α fits i k (omega arith)))
+      ext-getD 0 labels (chainLabels N α) (l .agree .labels-long ∙ sym (labels-long N α fits)) (λ i h.
+      let long = l .agree .labels-long in
+      ⊎-elim (λ (k : N ≤ i). l .agree .rest i k (omega arith) ∙ sym (labels-rest N α fits i k (omega arith)))
       (λ (k : i < N).
       let low = label-low N α i k in
-      l .named i k
+      l .agree .named i k
       ∙ cond-true (visitedAt visited i) (chainLabel N α i) 0 (subst T (sym (l .marked i k)) (lt→ltb (chainLabel N α i) N (omega arith)))
       ∙ sym (labels-entry N α fits i k))
       (le? N i))
