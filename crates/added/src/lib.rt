@@ -1,5 +1,7 @@
 // The literals of a clause that a refutation adds (document 01, "Checking a refutation"): the caller's own bytes, by the pair that the
 // check left.
+#![tactic(auto)]
+
 ghost use Rattle.std.specs.Prelude.{◌≡◌, ◌<◌};
 ghost use Rattle.added.specs.Part.{part_of};
 

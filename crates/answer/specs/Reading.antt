@@ -12,8 +12,6 @@ use Rattle.answer.specs.declared.Decoded.{Decoded}
 use Rattle.answer.specs.declared.Named.{Named}
 use Rattle.answer.specs.declared.Line.{Line}
 use Rattle.answer.specs.declared.Lines.{Lines}
-pub mod Laws
-pub mod Meaning
 
 -- what a line gives: the refusal, 0 if none; the phase, 0 before the s line, 1 after it, 2 after the 0; the values; the next line
 abbrev pub line : ℕ → ℕ → List ℕ → ℕ → Line

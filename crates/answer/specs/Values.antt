@@ -7,7 +7,6 @@ use Rattle.formula.specs.Formula.{network_variables}
 use Rattle.formula.specs.Number.{clause_of}
 use Rattle.numeral.specs.Number.{byte_at, literal_at}
 use Rattle.answer.specs.declared.Named.{Named}
-pub mod Laws
 
 -- the X and L variables
 abbrev pub kept : ℕ → ℕ → ℕ

@@ -3,6 +3,8 @@
 //
 // Lines are read from the top. Of the values that v lines name, only those of X and L variables are kept, in an array by value: 0
 // unnamed, 1 true, 2 false. Values of W, Z and S are never looked at. A refused reading gives the network of zeros.
+#![tactic(auto)]
+
 ghost use Rattle.std.specs.Prelude.{◌≡◌};
 ghost use Rattle.answer.specs.Values.{assigned};
 
@@ -16,21 +18,21 @@ pub const VALUES: usize = TERMINALS * (TERMINALS - 1) / 2 + 2 * (INPUTS as usize
 pub type Values = [u8; VALUES];
 
 // The form of a v line: the place after its newline, and whether its last number is 0; next is 0 where it has not the form.
-#[derive(Drop)]
+#[derive(Clone, Copy)]
 pub struct Form {
     pub next: usize,
     pub last: bool,
 }
 
 // The values after a line, and whether the line is refused (10).
-#[derive(Drop)]
+#[derive(Clone, Copy)]
 pub struct Named {
     pub refused: bool,
     pub values: Values,
 }
 
 // A line's outcome: its refusal, 0 if none; the phase and the values after it, and the place of the next line.
-#[derive(Drop)]
+#[derive(Clone, Copy)]
 pub struct Line {
     pub refusal: u8,
     pub phase: u8,
@@ -39,7 +41,7 @@ pub struct Line {
 }
 
 // What the lines gave: the refusal, 0 if none; the phase, 0 before the s line, 1 after it, 2 after the 0; the values.
-#[derive(Drop)]
+#[derive(Clone, Copy)]
 pub struct Lines {
     pub refusal: u8,
     pub phase: u8,
@@ -47,7 +49,7 @@ pub struct Lines {
 }
 
 // The refusal, 0 where the answer is taken, and the network that it describes.
-#[derive(Drop)]
+#[derive(Clone, Copy)]
 pub struct Decoded {
     pub refusal: u8,
     pub network: Network,

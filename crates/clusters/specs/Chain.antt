@@ -5,8 +5,6 @@ use Rattle.cnf.specs.Cnf.{Assignment}
 use Rattle.formula.specs.Formula.{X}
 use Rattle.network.specs.Value.{terminals_most}
 use Rattle.answer.specs.Decode.{lowest}
-pub mod Laws
-pub mod Nets
 
 module _ (N : ℕ) (α : Assignment) where
   -- a chain of at most t true X joins i to j: the chain of none joins a terminal to itself, and one X more goes on from some terminal k

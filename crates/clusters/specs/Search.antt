@@ -7,7 +7,6 @@ use Rattle.network.specs.Value.{terminals_most}
 use Rattle.network.specs.Check.{label_in}
 use Rattle.clusters.specs.Chain.{chain_label}
 use Rattle.clusters.specs.declared.Search.{Search}
-pub mod Laws
 
 -- whether a terminal is visited, and the terminal at a place of the queue
 abbrev pub visited_at : List Bool → ℕ → Bool

@@ -12,6 +12,8 @@
 //     a cluster's nodes are merged        its terminals have one label, the lowest of them
 //
 // Chains and labels are defined in specs/Chain.antt.
+#![tactic(auto)]
+
 ghost use Rattle.std.specs.Prelude.{◌≡◌, true, false, ◌+◌, ◌≤◌, ◌<◌};
 ghost use Rattle.formula.specs.Formula.{X};
 ghost use Rattle.network.specs.Value.{terminals_most};
@@ -24,7 +26,7 @@ use formula_clauses::variables;
 use network::{Labels, TERMINALS};
 
 // A search: the nodes that are visited, by it or by one before; their labels; the queue, and how many nodes have entered it.
-#[derive(Drop)]
+#[derive(Clone, Copy)]
 struct Search {
     visited: [bool; TERMINALS],
     labels: Labels,

@@ -1,9 +1,11 @@
 // Literals as values.
+#![tactic(auto)]
+
 ghost use Rattle.std.specs.Prelude.{◌≡◌};
 ghost use Rattle.cnf.specs.Cnf.{pos, neg};
 
 // A variable, or its negation.
-#[derive(Drop)]
+#[derive(Clone, Copy)]
 pub struct Literal {
     pub variable: u32,
     pub negative: bool,

@@ -7,8 +7,6 @@ use Rattle.cnf.specs.Cnf.{Formula}
 use Rattle.formula_clauses.specs.declared.store.StoredBlock.{StoredBlock}
 use Rattle.formula_clauses.specs.Store.{signs}
 use Rattle.text.specs.Text.{numbers_text}
-pub mod Laws
-pub mod Stored
 
 -- a line of signed numbers: 0 and the newline are last
 unfoldable pub numbers_line : List ℤ → List ℕ

@@ -11,7 +11,6 @@ use Rattle.text.specs.Decimal.{decimal}
 use Rattle.text.specs.Text.{line_text}
 use Rattle.dimacs.specs.declared.Answer.{Answer}
 use Rattle.dimacs.specs.declared.Answer.TheVariants.{Bytes, Refused}
-pub mod Laws
 
 -- document 01's number of an answer, 0 where it is a length
 abbrev pub number_of : Answer → ℕ

@@ -103,8 +103,8 @@ pub(crate) fn put_line(
     from: usize,
     count: usize,
 ) -> usize
-    requires count_in_bounds { from + count ≤ length literals.now }
-    requires literals_in_bounds { at + length (numbers_line (take count (drop from literals.now))) ≤ length buffer.old }
+    requires inside { from + count ≤ length literals.now }
+    requires room { at + length (numbers_line (take count (drop from literals.now))) ≤ length buffer.old }
     ensures { Wrote buffer.old at (numbers_line (take count (drop from literals.now))) result buffer.new }
 {
     let mut to = at;

@@ -35,7 +35,7 @@ fn put_head(buffer: &mut [u8], variables: u32, clauses: u32) -> usize
 // Writes the lines of the first count clauses that lie in literals and pairs as in a clause store.
 fn put_block(count: u32, literals: &[i32], pairs: &[u32], buffer: &mut [u8], at: usize) -> usize
     requires within { Within count literals.now pairs.now }
-    requires pairs_in_bounds { at + length (block_text count literals.now pairs.now) ≤ length buffer.old }
+    requires room { at + length (block_text count literals.now pairs.now) ≤ length buffer.old }
     ensures { Wrote buffer.old at (block_text count literals.now pairs.now) result buffer.new }
 {
     let mut k: usize = 0;

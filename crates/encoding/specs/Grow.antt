@@ -136,7 +136,7 @@ module _ (n r : ℕ) (w : Net) (size : switches w ≡ r) (form : FormedAs n r w)
   grown_low inputs s h =
       let e = literal_same w.literals s in
       ⊎_elim (λ (k : r ≤ s). let z = get_or-eq_default w.literals 0 {n = s} (omega arith) in omega arith)
-      (λ (k : s < r). let l = form.literals_low_lem s k in omega arith)
+      (λ (k : s < r). let l = form.literals_low s k in omega arith)
       (le? r s)
 
   -- each label at or below its terminal
@@ -184,7 +184,7 @@ module _ (n r : ℕ) (w : Net) (size : switches w ≡ r) (form : FormedAs n r w)
       record {
         literals_long = grown_switches;
         labels_long = grown_long;
-        literals_low_lem = grown_low inputs;
+        literals_low = grown_low inputs;
         labels_low = λ t h. subst (λ (x : ℕ). x ≤ t) (sym (grown_label_lem t h)) (label_most t h);
         labels_own = own;
       }

@@ -6,4 +6,3 @@ pub mod OffRow
 pub mod Values
 pub mod Encoding
 pub mod Grow
-pub mod Least

@@ -15,14 +15,14 @@ use Rattle.rows.specs.Rows.{Row}
 use Rattle.rows.specs.declared.Kind.TheVariants.{Off}
 use Rattle.network.specs.Networks.{Net, source, sink, switch_of, other, literal_at, label_at, closed_on, Walk, DoneIf}
 use Rattle.network.specs.Check.{part}
-use Rattle.network.specs.Meaning.Laws.{part_label, part_switch, part_walk}
+use Rattle.network.proofs.MeaningLaws.{part_label, part_switch, part_walk}
 use Rattle.formula.specs.Formula.{terminals, X, L, S, same_side, net_sides, switch_sides, off_row}
 use Rattle.encoding.specs.Stands.{Stands, joined_in, joined_out, chosen_in, chosen_out}
 
 -- what an off row's clauses say of the sides, the values of S
 pub record Sides (r : ℕ) (shut : ℕ → Bool) (label : ℕ → ℕ) (side : ℕ → Bool) : Type 0 where
   pub at_source : side source ≡ false
-  pub at_sink_lem : side (sink r) ≡ true
+  pub at_sink : side (sink r) ≡ true
   pub on_net : (i j : ℕ) → i < terminals r → j < terminals r → label i ≡ label j → side i ≡ side j
   pub on_switch : (s : ℕ) → s < r → T (shut s) → side (2 * s + 1) ≡ side (2 * s + 2)
 
@@ -53,7 +53,7 @@ module _ (r : ℕ) (shut : ℕ → Bool) (label : ℕ → ℕ) where
   -- so none joins the source and the sink
   sides_none : (side : ℕ → Bool) → Sides r shut label side → (es : List ℕ) → Walk r shut label source es (sink r) → ⊥
   sides_none side h es w =
-      subst T (sym h.at_sink_lem ∙ sym (walk_side side h es source (sink r) (omega arith) (omega arith) w) ∙ h.at_source) tt
+      subst T (sym h.at_sink ∙ sym (walk_side side h es source (sink r) (omega arith) (omega arith) w) ∙ h.at_source) tt
 
   -- where none does, the parts are such sides, and so are values that are the same
   none_sides : (side : ℕ → Bool) → ((i : ℕ) → i < terminals r → side i ≡ side_of r shut label i)
@@ -62,7 +62,7 @@ module _ (r : ℕ) (shut : ℕ → Bool) (label : ℕ → ℕ) where
   none_sides side is none =
       record {
         at_source = is source (omega arith) ∙ ap not (T-eq (eqb (p source) (p source)) (eqb_refl (p source)));
-        at_sink_lem = is (sink r) (omega arith)
+        at_sink = is (sink r) (omega arith)
             ∙ T-eq (not (eqb (p (sink r)) (p source))) (ne→neqb (p (sink r)) (p source) (λ e.
             let w = part_walk r shut label r source (sink r) (omega arith) (sym e) in none w.0 w.1));
         on_net = λ i j a b e. is i a ∙ ap other_part (part_label r shut label r i j e) ∙ sym (is j b);
@@ -166,7 +166,7 @@ module _ (n r m : ℕ) (w : Net) (α : Assignment) (stands : Stands n r w α) (B
       sides_none r (closed_on row w) (label_at w) side
       record {
         at_source = F-eq (side source) (one_out (not (side source)) s.0);
-        at_sink_lem = T-eq (side (sink r)) (one_out (side (sink r)) s.1.0);
+        at_sink = T-eq (side (sink r)) (one_out (side (sink r)) s.1.0);
         on_net = net_out two.0;
         on_switch = switch_out two.1;
       }
@@ -180,7 +180,7 @@ module _ (n r m : ℕ) (w : Net) (α : Assignment) (stands : Stands n r w α) (B
       let h : Says = none_sides r (closed_on row w) (label_at w) side is none in (
         or_l (not (side source)) false (T_of (not (side source)) (ap not h.at_source)),
         (
-          or_l (side (sink r)) false (T_of (side (sink r)) h.at_sink_lem),
+          or_l (side (sink r)) false (T_of (side (sink r)) h.at_sink),
           Sat-join α (net_sides (terminals r) B) (switch_sides n (terminals r) r B row.value) (net_hold h) (switch_hold h),
         ),
       )

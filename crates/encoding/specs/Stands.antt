@@ -13,7 +13,7 @@ use Rattle.network.specs.Value.{listed}
 use Rattle.formula.specs.Formula.{terminals, X, L, triple, transitivity, choice, choices}
 use Rattle.answer.specs.Decode.{decoded}
 use Rattle.answer.specs.Decode.Meaning.{decoded_formed}
-use Rattle.answer.specs.Reading.Meaning.{same_test, literal_test}
+use Rattle.answer.proofs.ReadingMeaning.{same_test, literal_test}
 
 -- α stands for the network w of r switches over n inputs
 pub record Stands (n r : ℕ) (w : Net) (α : Assignment) : Type 0 where
@@ -107,5 +107,5 @@ decoded_stands q α nets picks =
     record {
       joined = same_test q α nets picks;
       chosen = literal_test q α nets picks;
-      low = (decoded_formed q.n q.r α nets picks).literals_low_lem;
+      low = (decoded_formed q.n q.r α nets picks).literals_low;
     }

@@ -13,7 +13,6 @@ use Rattle.std.proofs.Math.Dec.{eqb}
 use Rattle.std.proofs.Math.ListN.{length, get_or, get_or-append}
 use Rattle.std.proofs.Math.Seq.{get_or-append-add}
 use Rattle.prelude.specs.Tests.{tests_eq, eq→eqb, le?}
-use Rattle.prelude.specs.Finite.{below}
 use Rattle.prelude.specs.Blocks.{each}
 use Rattle.prelude.specs.Blocks.Laws.{each_length, each_at, singles_length, singles_at}
 use Rattle.cnf.specs.Cnf.{Assignment, Sat}
@@ -24,7 +23,7 @@ use Rattle.rows.specs.declared.Kind.TheVariants.{On, Off, Free}
 use Rattle.network.specs.Networks.{Net, literal_at, label_at, closed_on, FormedAs, DoneIf, DoesAll}
 use Rattle.formula.specs.Formula.{terminals, pair_number, X, P, L, W, S, on_row, off_row, row_variables, row_clauses, rows_from, network_variables}
 use Rattle.formula.specs.Formula.Laws.{joined_low, joined_high, pair_number_lem, pairs_count}
-use Rattle.formula.specs.Formula.Range.{joined_in}
+use Rattle.formula.proofs.FormulaRange.{joined_in}
 use Rattle.formula.specs.Pairs.{pairs_before}
 use Rattle.formula.specs.Pairs.Laws.{pair_row, pair_rows_length, pair_rows_at}
 use Rattle.encoding.specs.Stands.{Stands}
@@ -129,7 +128,7 @@ values_stand n r w rest form =
           ap (λ (x : ℕ). get_or (joined_values r w ++ (chosen_values n r w ++ rest)) x false) e
           ∙ get_or-append-add (joined_values r w) (chosen_values n r w ++ rest) (s * (2 * n) + v) false
           ∙ get_or-append (chosen_values n r w) rest false (s * (2 * n) + v) room ∙ chosen_at_lem n r w s v h l;
-      low = form.literals_low_lem;
+      low = form.literals_low;
     }
 
 -- and the values of the rows come after them

@@ -1,38 +1,69 @@
 // Reads a request from standard input and writes its clause file to standard output, from a buffer of 65,536 bytes; otherwise
 // writes "refused" and the number. It reads up to 65,536 bytes; a longer input is no request and is refused with 1.
+#![tactic(auto)]
+
+ghost use Rattle.std.specs.Prelude.{◌≡◌, ◌+◌, take, IfOk, IfSome, OnOk};
+ghost use Rattle.std.specs.Io.KnownBytes.{Appends};
+ghost use Rattle.file.specs.Output.{longest, refused_text, request_text, output_text};
+
 use dimacs::Answer;
 use request::{Reading, Request};
+use std::alloc::Global;
+use std::io;
+use std::io::{Read, Write};
 
-fn refuse(number: u8) {
-    io::write_all(1, b"refused ");
-    io::print_decimal(1, number as u64);
-    io::write_all(1, b"\n");
+// The longest input that may be a request, in bytes.
+const LONGEST: usize = 65536;
+
+fn refuse<W: Write>(out: &mut W, number: u8) -> io::Result<()>
+    ensures { OnOk result (Appends (W.contents out.old) (W.contents out.new) (refused_text number)) }
+{
+    writeln!(out, "refused {number}")
 }
 
 // Writes the first bytes of a buffer.
-fn send(buffer: &[u8], count: usize) {
-    if count <= buffer.len() {
-        io::write_all(1, &buffer[0..count]);
-    }
+fn send<W: Write>(out: &mut W, buffer: &[u8], count: usize) -> io::Result<()>
+    ensures { OnOk result (Appends (W.contents out.old) (W.contents out.new) (take count buffer.now)) }
+{
+    let end = count.min(buffer.len());
+    out.write_all(&buffer[..end])
 }
 
-fn write(q: Request) {
-    let mut buffer = io::large_buffer();
+fn write<W: Write>(out: &mut W, q: Request) -> io::Result<()>
+    ensures { OnOk result (Appends (W.contents out.old) (W.contents out.new) (request_text q)) }
+{
+    let mut buffer = [0u8; 65536];
     match dimacs::write::write_file(q, &mut buffer) {
-        Answer::Bytes(k) => send(&buffer, k),
-        Answer::Refused(x) => refuse(x),
+        Answer::Bytes(k) => send(out, &buffer, k),
+        Answer::Refused(x) => refuse(out, x),
     }
 }
 
-fn main() {
-    let mut input = [0u8; 65537];
-    let got = io::read_full(0, &mut input);
-    if 65536 < got {
-        refuse(1);
-        return;
+// Answers an input: the clause file of the request that it is, or the refusal.
+fn answer<W: Write>(out: &mut W, input: &[u8]) -> io::Result<()>
+    ensures { OnOk result (Appends (W.contents out.old) (W.contents out.new) (output_text input.now)) }
+{
+    if LONGEST < input.len() {
+        return refuse(out, 1);
     }
-    match request_read::read_request(&input[..got]) {
-        Reading::Taken(q) => write(q),
-        Reading::Refused(x) => refuse(x),
+    match request_read::read_request(input) {
+        Reading::Taken(q) => write(out, q),
+        Reading::Refused(x) => refuse(out, x),
     }
+}
+
+// The bytes that a reader gives, but no more than one above the longest input that may be a request.
+fn read_input<R: Read>(alloc: Global, input: R) -> io::Result<Vec<u8>>
+where
+    R: Drop,
+    ensures { IfOk result (λ v. IfSome (R.remaining input) (λ xs. v.items ≡ take (longest + 1) xs)) }
+{
+    let mut bytes = Vec::new(alloc);
+    input.take(LONGEST as u64 + 1).read_to_end(&mut bytes)?;
+    Ok(bytes)
+}
+
+fn main(rt: HostRuntime) -> io::Result<()> {
+    let input = read_input(rt.alloc(), rt.reader())?;
+    answer(&mut io::writer(&rt), input.as_slice())
 }

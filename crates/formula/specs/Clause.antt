@@ -7,7 +7,6 @@ use Rattle.cnf.specs.declared.Literal.{Literal}
 use Rattle.formula.specs.declared.Clause.{Clause}
 use Rattle.formula.specs.declared.Clause.TheVariants.{Run, One, Two, Three}
 use Rattle.formula.specs.Count.{variables_most}
-pub mod Laws
 
 -- the positive literals of count variables from first on
 unfoldable pub run : ℕ → ℕ → List Literal

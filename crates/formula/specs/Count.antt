@@ -8,7 +8,6 @@ use Rattle.network.specs.Value.{terminals_most}
 use Rattle.formula.specs.declared.Sizes.{Sizes}
 use Rattle.formula.specs.Formula.{terminals, network_variables}
 use Rattle.formula.specs.Pairs.{pairs_before, triples_before}
-pub mod Laws
 
 -- the clauses of an on row
 unfoldable pub on_row_count : ℕ → ℕ → ℕ → ℕ

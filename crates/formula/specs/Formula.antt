@@ -11,10 +11,6 @@ pub use Rattle.network.specs.Networks.{terminals}
 pub mod Bounds
 pub mod Laws
 pub mod Groups
-pub mod OnRow
-pub mod OffRow
-pub mod Rows
-pub mod Range
 
 -- "X(i,j), i<j, pairs in order of i then j: i·(2N−i−1)/2 + j−i"
 unfoldable pub pair_number : ℕ → ℕ → ℕ → ℕ

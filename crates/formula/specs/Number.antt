@@ -4,7 +4,6 @@ use Rattle.cnf.specs.Cnf.{Clause}
 use Rattle.request.specs.Numbers.{refusal_of}
 use Rattle.request.specs.declared.Request.{Request}
 use Rattle.formula.specs.Formula.{formula_of}
-pub mod Laws
 
 -- clause k of a request, from 0; none past the last, and none where the request is refused
 unfoldable pub clause_of : Request → ℕ → Clause

@@ -13,7 +13,7 @@ use formula::Clause;
 use request::Request;
 
 // Three terminals i < j < k.
-#[derive(Drop)]
+#[derive(Clone, Copy)]
 pub struct Triple {
     pub i: u32,
     pub j: u32,

@@ -2,6 +2,8 @@
 //
 // They come in blocks: groups 1 and 2 first, which say what a network is, then those of each row. Within a block a clause is made from
 // its number, by value. Nothing else knows in which order clauses come.
+#![tactic(auto)]
+
 mod blocks;
 pub mod count;
 pub mod groups;
@@ -15,7 +17,7 @@ pub mod variables;
 
 // A block of clauses: groups 1 and 2; those of an on row or an off row, with the number of variables before the row and the row; or
 // those of a free row, which has none.
-#[derive(Drop)]
+#[derive(Clone, Copy)]
 pub enum Block {
     Network,
     On(u32, u32),

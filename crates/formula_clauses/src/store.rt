@@ -18,7 +18,7 @@ use formula::Clause;
 use request::Request;
 
 // The refusal of storing a request's clauses, 0 where there is none; V, C and T, 0 where there is one.
-#[derive(Drop)]
+#[derive(Clone, Copy)]
 pub struct Stored {
     pub refusal: u8,
     pub variables: u32,
@@ -88,7 +88,7 @@ fn put_pair(pairs: &mut [u32], k: usize, offset: u32, count: u32)
 }
 
 // The refusal of storing a block, 0 where there is none; how many clauses and literals it has, 0 where there is one.
-#[derive(Drop)]
+#[derive(Clone, Copy)]
 pub struct StoredBlock {
     pub refusal: u8,
     pub clauses: u32,

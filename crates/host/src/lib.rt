@@ -1,6 +1,8 @@
-// The entries that a host in C or C++ calls: numbers and slices in, a number out, 0 for "taken", "none", "does" or "least". A slice passes
-// as a pointer and a length, an array as a pointer. On a refusal what stands behind n, table, free, r, m, variables, clauses, literals and
-// size stays; count, number and network are always written.
+// The entries that a host in C or C++ calls: numbers and slices in, a number out, 0 for "taken", "none", "does" or "least". The crate
+// host_c hands them to C. On a refusal what stands behind n, table, free, r, m, variables, clauses, literals and size stays; count, number
+// and network are always written.
+#![tactic(auto)]
+
 ghost use Rattle.std.specs.Prelude.{◌≡◌, length, get_or};
 ghost use Rattle.request.specs.Numbers.{asked, refusal_of};
 ghost use Rattle.request.specs.Line.{request_number, request_values};
@@ -18,7 +20,6 @@ ghost use Rattle.settle.specs.Settle.{verdict_number, verdict_values};
 ghost use Rattle.host.specs.Bytes.{network_of};
 ghost use Rattle.host.specs.Entries.{size_numbers, check_code, check_detail, verdict_code, verdict_detail, Checks, Settles};
 
-use crate::bytes::NetworkBytes;
 use dimacs::Answer;
 use lrat::Outcome;
 use network::Checked;
@@ -27,9 +28,10 @@ use settle::Verdict;
 
 mod bytes;
 
+pub use bytes::NetworkBytes;
+
 // Reads the line of a request: 0 and its five numbers, or the refusal.
-#[unsafe(no_mangle)]
-pub extern "C" fn nk_read_request(
+pub fn nk_read_request(
     text: &[u8],
     n: &mut u8,
     table: &mut u16,
@@ -58,8 +60,7 @@ pub extern "C" fn nk_read_request(
 }
 
 // V, C and T of a request's clauses.
-#[unsafe(no_mangle)]
-pub extern "C" fn nk_sizes(
+pub fn nk_sizes(
     n: u8,
     table: u16,
     free: u16,
@@ -92,8 +93,7 @@ pub extern "C" fn nk_sizes(
 
 // Checks a network, as the 24 bytes that nk_settle writes, against a request: 0 does, 1 wrong, 2 refused; the lowest wrong row or the
 // refusal goes behind number, else 0.
-#[unsafe(no_mangle)]
-pub extern "C" fn nk_check_network(
+pub fn nk_check_network(
     n: u8,
     table: u16,
     free: u16,
@@ -133,8 +133,7 @@ pub extern "C" fn nk_check_network(
 }
 
 // The size of a request's clause file.
-#[unsafe(no_mangle)]
-pub extern "C" fn nk_file_size(n: u8, table: u16, free: u16, r: u8, m: u8, size: &mut u64) -> u32
+pub fn nk_file_size(n: u8, table: u16, free: u16, r: u8, m: u8, size: &mut u64) -> u32
     ensures refusal { result ≡ refusal_of (asked n table free r m) }
     ensures size { size.new ≡ get_or (size_values (asked n table free r m)) 0 size.old }
 {
@@ -154,8 +153,7 @@ pub extern "C" fn nk_file_size(n: u8, table: u16, free: u16, r: u8, m: u8, size:
 }
 
 // Writes a request's clause file into the buffer.
-#[unsafe(no_mangle)]
-pub extern "C" fn nk_write_file(
+pub fn nk_write_file(
     n: u8,
     table: u16,
     free: u16,
@@ -188,8 +186,7 @@ pub extern "C" fn nk_write_file(
 }
 
 // Reads an answer, and says whether it is taken.
-#[unsafe(no_mangle)]
-pub extern "C" fn nk_test_answer(n: u8, table: u16, free: u16, r: u8, m: u8, text: &[u8]) -> u32
+pub fn nk_test_answer(n: u8, table: u16, free: u16, r: u8, m: u8, text: &[u8]) -> u32
     ensures { result ≡ (reading_of (asked n table free r m) text.now).refusal }
 {
     let read = answer_read::read::read_answer(
@@ -207,8 +204,7 @@ pub extern "C" fn nk_test_answer(n: u8, table: u16, free: u16, r: u8, m: u8, tex
 
 // Checks a refutation of a request's clauses over four lent slices: 0 for "none", else the refusal; the number of added pairs goes
 // behind count.
-#[unsafe(no_mangle)]
-pub extern "C" fn nk_check_refutation(
+pub fn nk_check_refutation(
     n: u8,
     table: u16,
     free: u16,
@@ -273,8 +269,7 @@ fn verdict_detail(k: u8, verdict: Verdict) -> u32
 
 // Settles a request with r = k by an answer and a refutation for k-1, over four lent slices: 0 least, 1 works, 2 fails, 3 refused. The
 // number that goes with the verdict goes behind number, and the network that it is of into network.
-#[unsafe(no_mangle)]
-pub extern "C" fn nk_settle(
+pub fn nk_settle(
     n: u8,
     table: u16,
     free: u16,

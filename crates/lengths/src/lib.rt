@@ -1,4 +1,6 @@
 // How long the lines of a request's clauses are in the clause file, without making a clause. What their length is, is in specs/.
+#![tactic(auto)]
+
 mod parts;
 
 ghost use Rattle.std.specs.Prelude.{◌≡◌};

@@ -183,7 +183,7 @@ fn links_length(r: u32, m: u32, before: u32, joined: u32) -> u32
 }
 
 // The lengths of X that each on row has: from every end, and from the source and the sink.
-#[derive(Drop)]
+#[derive(Clone, Copy)]
 pub struct Nets {
     pub ends: u32,
     pub outer: u32,
@@ -270,7 +270,7 @@ pub(crate) fn network_length(n: u8, r: u8) -> u32
 }
 
 // How many variables a row has, and how long its lines are.
-#[derive(Drop)]
+#[derive(Clone, Copy)]
 pub struct RowSize {
     pub variables: u32,
     pub length: u32,

@@ -5,8 +5,6 @@ use Rattle.lrat.specs.declared.Step.{Step}
 use Rattle.lrat.specs.Rules.{unset, falsified, literals_good, conflict, goes_on, says_none}
 use Rattle.lrat.specs.Words.{literals_at, ids_at, Line, no_line, addition, deletion, line_at}
 use Rattle.lrat.specs.State.{hints_of, delete_all}
-pub mod Laws
-pub mod Sound
 
 -- what a line leaves: its code, the number of added pairs, the next line, the added pairs
 pub record Left : Type 0 where

@@ -4,7 +4,6 @@ use Rattle.lrat.specs.declared.Checked.{Checked}
 use Rattle.lrat.specs.declared.Outcome.{Outcome}
 use Rattle.lrat.specs.declared.Outcome.TheVariants.{None, Refused}
 use Rattle.lrat.specs.Rules.{says_none}
-pub mod Laws
 
 -- document 01's number of an outcome, 0 for "none"
 abbrev pub outcome_number : Outcome → ℕ

@@ -5,7 +5,6 @@ use Rattle.cnf.specs.Cnf.{Clause}
 use Rattle.cnf.specs.declared.Literal.{Literal}
 use Rattle.lrat.specs.declared.Found.{Found}
 use Rattle.lrat.specs.declared.Found.TheVariants.{AllFalse, Unset, Other}
-pub mod Sound
 
 -- the values of variables during a line: none is unset
 abbrev pub Values : Type 0

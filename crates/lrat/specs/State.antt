@@ -6,8 +6,6 @@ use Rattle.lrat.specs.declared.HintsRead.{HintsRead}
 use Rattle.lrat.specs.Rules.{Values, spent, goes_on, hinted}
 use Rattle.lrat.specs.Words.{text_limit, plain_at, literals_at, ids_at, run_at}
 use Rattle.lrat.specs.Bytes.{last_stamp, values_in, DuringLine, Below, stored_clause}
-pub mod Laws
-pub mod Added
 
 -- whether clause x stands, of C original clauses and a added ones: "original clauses stay standing", and a deleted one's "pair's
 -- length becomes 0"

@@ -37,9 +37,9 @@ fn digit(b: u8) -> usize
 // The digits of a number that is known to stand at a place, with a space after it, after a minus where minus is 1: they are read
 // without a test of their form.
 fn known_digits(text: &[u8], at: usize, minus: u8) -> Word
-    requires fact { (number_at text.now at minus).next ≡ 0 → ⊥ }
-    requires minus_value { byte_at text.now (number_at text.now at minus).next ≡ 32 }
-    requires minus_bound { minus ≤ 1 }
+    requires there { (number_at text.now at minus).next ≡ 0 → ⊥ }
+    requires spaced { byte_at text.now (number_at text.now at minus).next ≡ 32 }
+    requires sign { minus ≤ 1 }
     ensures { result ≡ number_at text.now at minus }
 {
     let mut value = digit(text[at]);
@@ -57,8 +57,8 @@ fn known_digits(text: &[u8], at: usize, minus: u8) -> Word
 
 // The same of a literal.
 fn known_literal(text: &[u8], at: usize) -> Word
-    requires fact { (literal_at text.now at).next ≡ 0 → ⊥ }
-    requires at_value { byte_at text.now (literal_at text.now at).next ≡ 32 }
+    requires there { (literal_at text.now at).next ≡ 0 → ⊥ }
+    requires spaced { byte_at text.now (literal_at text.now at).next ≡ 32 }
     ensures { result ≡ literal_at text.now at }
 {
     if text[at] == b'-' {
@@ -69,7 +69,7 @@ fn known_literal(text: &[u8], at: usize) -> Word
 
 // What the clause is under the values that the text spells after the place at.
 fn evaluate_added(text: &[u8], at: usize, values: &[u8], stamp: u8) -> Found
-    requires fact { ((run_at literal_at text.now at).next ≡ 0 → ⊥) × (byte_at text.now (run_at literal_at text.now at).next ≡ 32) }
+    requires spelled { ((run_at literal_at text.now at).next ≡ 0 → ⊥) × (byte_at text.now (run_at literal_at text.now at).next ≡ 32) }
     requires below { Below (length values.now) (literals_at text.now at) }
     requires during_line { DuringLine stamp values.now × (stamp ≤ last_stamp) }
     ensures { result ≡ found_in stamp values.now (literals_at text.now at) }
@@ -135,7 +135,7 @@ fn stored(literals: &[i32], k: usize) -> Word
 
 // And the clause that the store has in n entries from the entry from on.
 fn evaluate_original(literals: &[i32], from: usize, n: usize, values: &[u8], stamp: u8) -> Found
-    requires n_in_bounds { (from + n ≤ length literals.now) × (length values.now ≤ values_limit) }
+    requires inside { (from + n ≤ length literals.now) × (length values.now ≤ values_limit) }
     requires below { Below (length values.now) (store_from n literals.now from) }
     requires during_line { DuringLine stamp values.now × (stamp ≤ last_stamp) }
     ensures { result ≡ found_in stamp values.now (store_from n literals.now from) }
@@ -194,7 +194,7 @@ pub(crate) fn evaluate(
     values: &[u8],
     stamp: u8,
 ) -> Found
-    requires true_value { true ≡ stands_in clauses a added.now x }
+    requires standing { true ≡ stands_in clauses a added.now x }
     requires ready { Ready clauses literals.now pairs.now text.now a added.now stamp (length values.now) }
     requires during_line { DuringLine stamp values.now }
     ensures { result ≡ found_in stamp values.now (clause_at (formula_in clauses literals.now pairs.now) text.now added.now x) }

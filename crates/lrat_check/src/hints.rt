@@ -19,7 +19,7 @@ fn hint(
     values: &mut [u8],
     stamp: u8,
 ) -> u8
-    requires le_x { 1 ≤ x }
+    requires positive { 1 ≤ x }
     requires ready { Ready clauses literals.now pairs.now text.now a added.now stamp (length values.old) }
     requires during_line { DuringLine stamp values.old }
     ensures { AfterHint (formula_in clauses literals.now pairs.now) text.now a added.now stamp x values.old result values.new }

@@ -7,6 +7,8 @@
 //
 // check.rt is the operation, lines.rt follows line after line, and a line goes through literals.rt, then through hints.rt, which
 // looks at the hints' clauses through clause.rt. The paragraph on top of each says which refusals are decided there.
+#![tactic(auto)]
+
 pub mod check;
 mod clause;
 mod hints;

@@ -11,8 +11,6 @@ use Rattle.network.specs.Value.{listed}
 use Rattle.network.specs.declared.Network.{Network}
 use Rattle.network.specs.declared.Checked.{Checked}
 use Rattle.network.specs.declared.Checked.TheVariants.{Does, Wrong, Refused}
-pub mod Laws
-pub mod Numbers
 
 -- document 01's number of an answer, 0 where it is not a refusal
 abbrev pub number_of : Checked → ℕ

@@ -4,7 +4,6 @@ use Rattle.request.specs.declared.Request.{Request}
 use Rattle.network.specs.declared.Network.{Network}
 use Rattle.network.specs.Networks.{Net, switches, Formed, Does}
 use Rattle.network.specs.Value.{listed}
-pub mod Laws
 
 -- "least" of a request with r = k and a network
 pub record LeastFor (q : Request) (w : Network) : Type 0 where

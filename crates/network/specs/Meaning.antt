@@ -8,7 +8,6 @@ use Rattle.network.specs.Value.{listed}
 use Rattle.network.specs.declared.Network.{Network}
 use Rattle.network.specs.declared.Checked.{Checked}
 use Rattle.network.specs.declared.Checked.TheVariants.{Does, Wrong, Refused}
-pub mod Laws
 
 -- the request is good, the network has its r switches and the form
 pub record Accepted (q : Request) (w : Network) : Type 0 where

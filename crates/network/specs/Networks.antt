@@ -5,7 +5,6 @@ use Rattle.rows.specs.Rows.{Row, rows_of}
 use Rattle.rows.specs.declared.Kind.{Kind}
 use Rattle.rows.specs.declared.Kind.TheVariants.{On, Off, Free}
 use Rattle.request.specs.declared.Request.{Request}
-pub mod Laws
 
 -- "There are N = 2r+2 terminals"
 abbrev pub terminals : ℕ → ℕ
@@ -45,7 +44,7 @@ switches w = length w.literals
 pub record FormedAs (n r : ℕ) (w : Net) : Type 0 where
   pub literals_long : length w.literals ≡ r
   pub labels_long : length w.labels ≡ terminals r
-  pub literals_low_lem : (s : ℕ) → s < r → literal_at w s < 2 * n
+  pub literals_low : (s : ℕ) → s < r → literal_at w s < 2 * n
   pub labels_low : (i : ℕ) → i < terminals r → label_at w i ≤ i
   pub labels_own : (i : ℕ) → i < terminals r → label_at w (label_at w i) ≡ label_at w i
 

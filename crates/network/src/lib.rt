@@ -3,6 +3,8 @@
 // A network of at most SWITCHES switches is a literal for each switch and a label for each terminal, in arrays that go in and out
 // by value and are copied where they are handed on. Entries past r literals and 2r + 2 labels are 0 in a network that we make and
 // unread in one that we are given.
+#![tactic(auto)]
+
 pub mod value;
 
 use request::SWITCHES;
@@ -19,7 +21,7 @@ pub type Literals = [u8; LITERALS];
 // A label for each terminal.
 pub type Labels = [u8; TERMINALS];
 
-#[derive(Drop)]
+#[derive(Clone, Copy)]
 pub struct Network {
     pub r: u8,
     pub literals: Literals,
@@ -27,7 +29,7 @@ pub struct Network {
 }
 
 // What checking a network answers: it does the job, the lowest wrong row, or the number of a refusal.
-#[derive(Drop)]
+#[derive(Clone, Copy)]
 pub enum Checked {
     Does,
     Wrong(u8),

@@ -3,6 +3,8 @@
 // A row's closed switches are found once. On an on row the terminals within t switches of the sink are found for t = 0 to M; on
 // an off row the nets at the two ends of each closed switch are merged, one switch after the other, and the source and the sink
 // must stay apart. Merging needs no bound on the length of a walk. A free row is right in any case.
+#![tactic(auto)]
+
 ghost use Rattle.std.specs.Prelude.{◌≡◌, Bool, true, false, ℕ, ◌+◌, ◌*◌, ◌^◌, ◌≤◌, ◌<◌, get_or};
 ghost use Rattle.request.specs.Numbers.{inputs_most, switches_most, Good};
 ghost use Rattle.rows.specs.Rows.{literal_on, row_at};

@@ -1,10 +1,12 @@
 // Numbers in answers and refutations (document 01: "decimal and have at most nine digits, single spaces, no leading zero, no
 // \"-0\""): one scanner, which both readers share.
+#![tactic(auto)]
+
 ghost use Rattle.std.specs.Prelude.{◌≡◌, ◌-◌, ◌≤◌, ◌<◌};
 ghost use Rattle.numeral.specs.Number.{byte_at, no_word, number_at, literal_at, Limit};
 
 // A number in the text: 1 for a minus before it, its value, and the place after it; next is 0 where there is none.
-#[derive(Drop)]
+#[derive(Clone, Copy)]
 pub struct Word {
     pub minus: u8,
     pub value: usize,

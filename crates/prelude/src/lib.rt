@@ -1,1 +1,3 @@
 // What several crates cite: definitions and laws of specs/, each once. It has no code.
+
+#![tactic(auto)]

@@ -1,33 +1,47 @@
 // The report: reads request.txt, answer.txt and refutation.txt in the working folder, settles, and writes what reports::report
 // makes. Each file may have up to 65,536 bytes; the first longer one, in that order, ends it with "too long" and the name. A missing
 // file is empty.
+#![tactic(auto)]
 
-// Reads a file into the buffer, and answers how many bytes it has there.
-fn load(name: &[u8], buffer: &mut [u8]) -> usize {
-    let fd = os::open_read(name);
-    if fd < 0 {
-        return 0;
+ghost use Rattle.std.specs.Prelude.{take, OnOk};
+ghost use Rattle.std.specs.Io.KnownBytes.{Appends};
+ghost use Rattle.reports.specs.Report.{report_text};
+ghost use Rattle.report.specs.Output.{lent_zeros, too_long_text, output_text};
+
+use std::io::{Read, Write};
+use std::rt::Files;
+use std::{fs, io};
+
+// The longest file that is read whole, in bytes.
+const LONGEST: usize = 65536;
+
+// Reads a file, but no more than one byte above the longest that is read whole. A file that cannot be opened is empty.
+fn load<R: Files + AllocGlobal>(rt: &R, name: &str) -> io::Result<Vec<u8>> {
+    let mut bytes = Vec::new(rt.alloc());
+    if let Ok(file) = fs::open(rt, name) {
+        file.take(LONGEST as u64 + 1).read_to_end(&mut bytes)?;
     }
-    let got = io::read_full(fd, buffer);
-    libc::close(fd);
-    got
+    Ok(bytes)
 }
 
-fn too_long(name: &[u8]) {
-    io::write_all(1, b"too long ");
-    io::write_all(1, name);
-    io::write_all(1, b"\n");
+fn too_long<W: Write>(out: &mut W, name: &str) -> io::Result<()>
+    ensures { OnOk result (Appends (W.contents out.old) (W.contents out.new) (too_long_text name.now)) }
+{
+    writeln!(out, "too long {name}")
 }
 
 // Writes the first bytes of a buffer.
-fn send(buffer: &[u8], count: usize) {
-    if count <= buffer.len() {
-        io::write_all(1, &buffer[0..count]);
-    }
+fn send<W: Write>(out: &mut W, buffer: &[u8], count: usize) -> io::Result<()>
+    ensures { OnOk result (Appends (W.contents out.old) (W.contents out.new) (take count buffer.now)) }
+{
+    let end = count.min(buffer.len());
+    out.write_all(&buffer[..end])
 }
 
 // Settles with the slices that the program lends, and writes the text.
-fn settle(request: &[u8], answer: &[u8], refutation: &[u8]) {
+fn settle<W: Write>(out: &mut W, request: &[u8], answer: &[u8], refutation: &[u8]) -> io::Result<()>
+    ensures { OnOk result (Appends (W.contents out.old) (W.contents out.new) (report_text request.now answer.now refutation.now lent_zeros)) }
+{
     let mut literals = [0i32; 16384];
     let mut pairs = [0u32; 16384];
     let mut added = [0u32; 16384];
@@ -42,41 +56,34 @@ fn settle(request: &[u8], answer: &[u8], refutation: &[u8]) {
         &mut values,
     );
     let bytes = text.bytes;
-    send(&bytes, text.count);
+    send(out, &bytes, text.count)
 }
 
-// Settles from the first bytes of three buffers.
-fn judge(request: &[u8], a: usize, answer: &[u8], b: usize, refutation: &[u8], c: usize) {
-    if request.len() < a {
-        return;
+// Settles from three files, or names the first that is too long.
+fn judge<W: Write>(out: &mut W, request: &[u8], answer: &[u8], refutation: &[u8]) -> io::Result<()>
+    ensures { OnOk result (Appends (W.contents out.old) (W.contents out.new) (output_text request.now answer.now refutation.now)) }
+{
+    if LONGEST < request.len() {
+        return too_long(out, "request.txt");
     }
-    if answer.len() < b {
-        return;
+    if LONGEST < answer.len() {
+        return too_long(out, "answer.txt");
     }
-    if refutation.len() < c {
-        return;
+    if LONGEST < refutation.len() {
+        return too_long(out, "refutation.txt");
     }
-    settle(&request[0..a], &answer[0..b], &refutation[0..c]);
+    settle(out, request, answer, refutation)
 }
 
-fn main() {
-    let mut request = [0u8; 65537];
-    let mut answer = [0u8; 65537];
-    let mut refutation = [0u8; 65537];
-    let a = load(b"request.txt", &mut request);
-    let b = load(b"answer.txt", &mut answer);
-    let c = load(b"refutation.txt", &mut refutation);
-    if 65536 < a {
-        too_long(b"request.txt");
-        return;
-    }
-    if 65536 < b {
-        too_long(b"answer.txt");
-        return;
-    }
-    if 65536 < c {
-        too_long(b"refutation.txt");
-        return;
-    }
-    judge(&request, a, &answer, b, &refutation, c);
+fn main(rt: HostRuntime) -> io::Result<()> {
+    let request = load(&rt, "request.txt")?;
+    let answer = load(&rt, "answer.txt")?;
+    let refutation = load(&rt, "refutation.txt")?;
+    let mut out = io::writer(&rt);
+    judge(
+        &mut out,
+        request.as_slice(),
+        answer.as_slice(),
+        refutation.as_slice(),
+    )
 }

@@ -11,8 +11,6 @@ use Rattle.settle.specs.declared.Verdict.TheVariants.{Least, Works, Fails, Refus
 use Rattle.settle.specs.Settle.{settlement, settle_leaves}
 use Rattle.network.specs.declared.Network.{Network}
 use Rattle.network.specs.Least.{LeastFor}
-pub mod Laws
-pub mod Says
 
 -- "It prints \"least k\", \"works k number\", \"fails k row\" or \"refused number\"; after the first two, a line \"s v a b\" per switch ..
 -- and \"sink c\""

@@ -1,5 +1,7 @@
 // The text of the report (document 01, "The report program"): what a request, an answer and a refutation, as the bytes of three
 // files, come to.
+#![tactic(auto)]
+
 ghost use Rattle.std.specs.Prelude.{◌≡◌, ◌≤◌};
 ghost use Rattle.lrat_check.specs.Refutation.{lent};
 ghost use Rattle.reports.specs.Texts.{shown};
@@ -12,7 +14,7 @@ mod texts;
 
 // A text: an array of 160 bytes and how many of them count. The longest has 121: "works 255 255", seven lines "6 255 255 255" and
 // "sink 255", each with its newline.
-#[derive(Drop)]
+#[derive(Clone, Copy)]
 pub struct Text {
     pub bytes: [u8; 160],
     pub count: usize,

@@ -5,7 +5,6 @@ use Rattle.request.specs.declared.Request.{Request}
 use Rattle.request.specs.declared.Reading.{Reading}
 use Rattle.request.specs.declared.Reading.TheVariants.{Taken, Refused}
 use Rattle.request.specs.Numbers.{inputs_most, switches_most, series_most}
-pub mod Laws
 
 -- document 01's number of an answer, 0 for a request that is taken
 abbrev pub number_of : Reading → ℕ

@@ -2,7 +2,6 @@
 use Rattle.std.specs.Prelude.{◌≡◌, Bool, true, false, not, ◌&&◌, cond, ℕ, ◌/◌, ◌%◌, ◌^◌, ◌≤◌, ◌<◌, eqb, leb, ltb}
 use Rattle.prelude.specs.Lists.{any_from}
 use Rattle.request.specs.declared.Request.{Request}
-pub mod Laws
 
 -- the request that a caller asks who hands it over as numbers: n, the table, the free rows, r and M, in this order
 abbrev pub asked : ℕ → ℕ → ℕ → ℕ → ℕ → Request

@@ -3,6 +3,8 @@
 // A request is n inputs, the table of 2^n rows as two numbers, r switches and the series bound M. Bit k of the table is 1 where row k is
 // on, and bit k of free where nobody drives row k; a row with neither is off. A request goes in and out by value: it is five small
 // numbers, and no operation changes one that it is given.
+#![tactic(auto)]
+
 pub mod numbers;
 
 // The most inputs.
@@ -14,7 +16,7 @@ pub const SWITCHES: u8 = 7;
 // The highest series bound.
 pub const SERIES: u8 = 7;
 
-#[derive(Drop)]
+#[derive(Clone, Copy)]
 pub struct Request {
     pub n: u8,
     pub table: u16,
@@ -24,7 +26,7 @@ pub struct Request {
 }
 
 // What reading a request answers: the request, or the number of the refusal and nothing else.
-#[derive(Drop)]
+#[derive(Clone, Copy)]
 pub enum Reading {
     Taken(Request),
     Refused(u8),

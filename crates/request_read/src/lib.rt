@@ -1,6 +1,8 @@
 // Reading a request from bytes of any content and length. The line's form is tested whole before any of its numbers: 1 unless
 // it is four non-empty runs of digits, the second of digits and "-", with one space between and a newline last. Then n, the table,
 // r and M, in this order.
+#![tactic(auto)]
+
 ghost use Rattle.std.specs.Prelude.{◌≡◌, ◌-◌, ◌≤◌, ◌<◌, length};
 ghost use Rattle.request.specs.Numbers.{inputs_most, rows_most};
 ghost use Rattle.request.specs.Line.{number_of, values_of, digit, field_character, run_end, ended_by, single, row_character, is_table, marked, request_number, request_values, request_of, numbers_of, Bytes, Ends};

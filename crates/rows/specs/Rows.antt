@@ -7,7 +7,6 @@ use Rattle.rows.specs.declared.Kind.{Kind}
 use Rattle.rows.specs.declared.Kind.TheVariants.{On, Off, Free}
 -- bit k of a number, passed on
 pub use Rattle.request.specs.Numbers.{bit}
-pub mod Laws
 
 -- the number of rows below row k whose bit is set
 unfoldable pub set_below : ℕ → ℕ → ℕ

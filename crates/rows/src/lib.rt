@@ -1,4 +1,6 @@
 // Rows: of what kind each is, how many are set in a number, and the value of a literal on one.
+#![tactic(auto)]
+
 ghost use Rattle.std.specs.Prelude.{◌≡◌, Bool, ℕ, ◌*◌, ◌^◌, ◌≤◌, ◌<◌};
 ghost use Rattle.request.specs.Numbers.{inputs_most, rows_most};
 ghost use Rattle.rows.specs.Rows.{bit, set_below, kind_of, input_rows, literal_on, literal_value};
@@ -9,7 +11,7 @@ use request::{INPUTS, Request};
 pub const ROWS: u32 = 1 << INPUTS;
 
 // What a row asks of a network: current, none, or nothing.
-#[derive(Drop)]
+#[derive(Clone, Copy)]
 pub enum Kind {
     On,
     Off,

@@ -17,7 +17,6 @@ use Rattle.settle.specs.declared.Verdict.{Verdict}
 use Rattle.settle.specs.declared.Verdict.TheVariants.{Least, Works, Fails, Refused}
 pub mod Laws
 pub mod Exactly
-pub mod Numbers
 pub mod Meaning
 
 -- document 01's number of a verdict, 0 where it is not a refusal

@@ -3,6 +3,8 @@
 //
 // The answer gives the network, the network is checked against the request, and the refutation is checked against the request with
 // one switch fewer. A network of fewer switches than that needs no refutation of its own: a dangling switch may be added to it.
+#![tactic(auto)]
+
 ghost use Rattle.std.specs.Prelude.{◌≡◌, ◌<◌};
 ghost use Rattle.lrat_check.specs.Refutation.{lent};
 ghost use Rattle.network.specs.Least.{LeastFor};
@@ -15,7 +17,7 @@ use request::Request;
 
 // What settling says: k is the least number of switches; the network works, with the number that the refutation is refused with; it
 // fails, with its lowest wrong row; or the number of a refusal.
-#[derive(Drop)]
+#[derive(Clone, Copy)]
 pub enum Verdict {
     Least,
     Works(u8),
@@ -24,7 +26,7 @@ pub enum Verdict {
 }
 
 // The verdict, and the network that the answer describes, or the network of zeros with a refusal.
-#[derive(Drop)]
+#[derive(Clone, Copy)]
 pub struct Settlement {
     pub verdict: Verdict,
     pub network: Network,

@@ -1,4 +1,6 @@
 // How many digits a number has, and the absolute value of a signed one. What numbers, literals and clauses are as text is in specs/.
+#![tactic(auto)]
+
 ghost use Rattle.std.specs.Prelude.{◌≡◌, ◌≤◌, length};
 ghost use Rattle.text.specs.Decimal.{decimal};
 ghost use Rattle.prelude.specs.Signed.{variable};

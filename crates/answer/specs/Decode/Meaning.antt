@@ -236,7 +236,7 @@ decoded_formed n r α joins picks =
     record {
       literals_long = ap (λ (w : Net). length w.literals) (decoded_listed n r α) ∙ length_tab 0 r (literal_for n r α);
       labels_long = ap (λ (w : Net). length w.labels) (decoded_listed n r α) ∙ length_tab 0 (terminals r) (label_for r α);
-      literals_low_lem = λ s h. subst (λ (x : ℕ). x < 2 * n) (sym (decoded_literal n r α s h)) (literal_low n r α picks s h);
+      literals_low = λ s h. subst (λ (x : ℕ). x < 2 * n) (sym (decoded_literal n r α s h)) (literal_low n r α picks s h);
       labels_low = λ i h. subst (λ (x : ℕ). x ≤ i) (sym (decoded_label n r α i h)) (label_low r α i);
       labels_own = λ i h.
           let low : label_for r α i ≤ i = label_low r α i in

@@ -11,7 +11,7 @@ use Rattle.prelude.specs.Tests.{le?}
 use Rattle.prelude.specs.Blocks.{each}
 use Rattle.prelude.specs.Blocks.Laws.{each_index}
 use Rattle.rows.specs.Rows.{bit, literal_on}
-use Rattle.rows.specs.Rows.Laws.{bit_upper, bit_lower, bit_complement}
+use Rattle.rows.proofs.RowsLaws.{bit_upper, bit_lower, bit_complement}
 use Rattle.formula.specs.Values.{count_below, NthIs, has_value}
 
 pub count_none : (p : ℕ → Bool) → count_below p 0 ≡ 0

@@ -14,20 +14,20 @@ use Rattle.prelude.specs.Blocks.{flatten}
 use Rattle.prelude.specs.Blocks.Laws.{flatten_append}
 use Rattle.cnf.specs.Cnf.{Clause, Formula}
 use Rattle.rows.specs.Rows.{Row, set_below, kind_of, by_kind, off_below, row_at, rows_of, literal_on}
-use Rattle.rows.specs.Rows.Laws.{on_off_most}
+use Rattle.rows.proofs.RowsLaws.{on_off_most}
 use Rattle.rows.specs.declared.Kind.{Kind}
 use Rattle.rows.specs.declared.Kind.TheVariants.{On as on, Off as off, Free as free}
 use Rattle.request.specs.Numbers.{Good, refusal_of}
-use Rattle.request.specs.Numbers.Laws.{good_refusal, refusal_good, rows_high}
+use Rattle.request.proofs.NumbersLaws.{good_refusal, refusal_good, rows_high}
 use Rattle.request.specs.declared.Request.{Request}
 use Rattle.formula.specs.Formula.{terminals, P, transitivity, choices, on_row, off_row, row_clauses, rows_from, formula, formula_of, network_variables}
-use Rattle.formula.specs.Formula.OnRow.{on_row_length, on_row_literals_lem}
-use Rattle.formula.specs.Formula.OffRow.{off_row_length, off_row_literals_lem}
-use Rattle.formula.specs.Formula.Rows.{variables_in, rows_append}
+use Rattle.formula.proofs.FormulaOnRow.{on_row_length, on_row_literals_lem}
+use Rattle.formula.proofs.FormulaOffRow.{off_row_length, off_row_literals_lem}
+use Rattle.formula.proofs.FormulaRows.{variables_in, rows_append}
 use Rattle.formula.specs.Count.{on_row_count, off_row_count, network_count, split, variables_before}
-use Rattle.formula.specs.Count.Laws.{weighted_most, rows_below, below_more, variables_below, rows_clauses_lem, split_more, network_length, network_literals_lem}
+use Rattle.formula.proofs.CountLaws.{weighted_most, rows_below, below_more, variables_below, rows_clauses_lem, split_more, network_length, network_literals_lem}
 use Rattle.formula.specs.Number.{clause_of}
-use Rattle.formula.specs.Number.Laws.{clause_good}
+use Rattle.formula.proofs.NumberLaws.{clause_good}
 use Rattle.formula_clauses.specs.declared.Block.{Block}
 use Rattle.formula_clauses.specs.declared.Block.TheVariants.{Network, On, Off, Free}
 use Rattle.formula_clauses.specs.Bounds.{row_most, variables_few}

@@ -20,16 +20,16 @@ use Rattle.prelude.specs.Written.{written}
 use Rattle.prelude.specs.Written.Laws.{written_none, written_append}
 use Rattle.cnf.specs.Cnf.{signed_of, Clause, Formula}
 use Rattle.request.specs.Numbers.{Good}
-use Rattle.request.specs.Numbers.Laws.{good_refusal, refusal_good}
+use Rattle.request.proofs.NumbersLaws.{good_refusal, refusal_good}
 use Rattle.request.specs.declared.Request.{Request}
 use Rattle.formula.specs.Clause.{Low}
 use Rattle.formula.specs.Formula.{formula_of}
 use Rattle.formula.specs.Count.{variable_count, clause_count, literal_count}
-use Rattle.formula.specs.Count.Laws.{clause_count_lem, literal_count_lem}
+use Rattle.formula.proofs.CountLaws.{clause_count_lem, literal_count_lem}
 use Rattle.formula_clauses.specs.declared.Block.{Block}
 use Rattle.formula_clauses.specs.Block.{block_clauses, Fits, block_of, clauses_of, blocks_below, block_formula}
 use Rattle.formula_clauses.specs.Block.Laws.{blocks_all, block_within, block_each}
-use Rattle.formula.specs.Formula.Range.{ClauseIn, range, variables_most_lem}
+use Rattle.formula.proofs.FormulaRange.{ClauseIn, range, variables_most_lem}
 use Rattle.formula_clauses.specs.declared.store.Stored.{Stored}
 use Rattle.formula_clauses.specs.declared.store.StoredBlock.{StoredBlock}
 use Rattle.formula_clauses.specs.Store.{signs, stored_variables, room_refusal, store_refusal, block_refusal, block_sizes, block_literals_in, block_pairs_in, store_sizes, stored_literals, stored_pairs, Roomy, BlockRoom}

@@ -4,10 +4,10 @@ use Rattle.std.specs.Prelude.{◌≡◌, ℕ, ◌*◌, ◌≤◌, ◌<◌, lengt
 use Rattle.std.proofs.Common.{sym, ap, ◌∙◌, arith}
 use Rattle.prelude.specs.Blocks.{flatten}
 use Rattle.prelude.specs.Lists.{Each}
-use Rattle.request.specs.Numbers.Laws.{refusal_good}
+use Rattle.request.proofs.NumbersLaws.{refusal_good}
 use Rattle.request.specs.declared.Request.{Request}
-use Rattle.formula.specs.Formula.Range.{range, variables_most_lem}
-use Rattle.formula.specs.Count.Laws.{clause_count_lem, literal_count_lem}
+use Rattle.formula.proofs.FormulaRange.{range, variables_most_lem}
+use Rattle.formula.proofs.CountLaws.{clause_count_lem, literal_count_lem}
 use Rattle.formula_clauses.specs.declared.store.Stored.{Stored}
 use Rattle.formula_clauses.specs.Store.{stored_formula, stored_variables, store_refusal, store_sizes}
 use Rattle.formula_clauses.specs.Store.Laws.{none_taken, sizes_none, sizes_refusal}
@@ -18,7 +18,7 @@ pub record Promise (q : Request) (literals pairs : ℕ) (x : Stored) : Type 0 wh
   pub variables_few : x.variables < 65536
   pub clauses_are : x.clauses ≡ length (stored_formula q)
   pub literals_are : x.literals ≡ length (flatten (stored_formula q))
-  pub literals_room_lem : length (flatten (stored_formula q)) ≤ literals
+  pub literals_room : length (flatten (stored_formula q)) ≤ literals
   pub pairs_room : 2 * length (stored_formula q) ≤ pairs
   pub in_range : Each (Each (λ l. (1 ≤ l.variable) × (l.variable ≤ stored_variables q))) (stored_formula q)
 
@@ -38,7 +38,7 @@ promise q literals pairs x x-is e =
       variables_few = omega arith;
       clauses_are = ap (λ (y : Stored). y.clauses) f ∙ sym c;
       literals_are = ap (λ (y : Stored). y.literals) f ∙ sym l;
-      literals_room_lem = omega (arith, t.literals_long);
+      literals_room = omega (arith, t.literals_long);
       pairs_room = omega (arith, t.pairs_long);
       in_range = range q;
     }

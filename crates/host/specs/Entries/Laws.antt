@@ -3,9 +3,8 @@ use Rattle.std.specs.Prelude.{◌≡◌, refl, [], ◌∷◌, ℕ}
 use Rattle.std.proofs.Common.{sym, ap, ◌∙◌, arith, eq-eqb, ne_eqb}
 use Rattle.request.specs.declared.Request.{Request}
 use Rattle.request.specs.Numbers.{refusal_of}
-use Rattle.request.specs.Numbers.Laws.{refusal_good}
 use Rattle.formula.specs.Count.{sizes_of}
-use Rattle.formula.specs.Count.Laws.{clause_count_lem, literal_count_lem, sizes_taken, sizes_refusal}
+use Rattle.formula.proofs.CountLaws.{clause_count_lem, literal_count_lem, sizes_taken, sizes_refusal}
 use Rattle.formula.specs.declared.Sizes.{Sizes}
 use Rattle.settle.specs.declared.Verdict.{Verdict}
 use Rattle.settle.specs.declared.Verdict.TheVariants.{Least, Works, Fails, Refused}

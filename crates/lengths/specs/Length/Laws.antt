@@ -1,7 +1,7 @@
 -- Laws of the lengths of clauses' lines: they are those of the text, and add up. Assumes nothing.
 use Rattle.std.specs.Prelude.{◌≡◌, Bool, true, false, not, cond, [], ◌∷◌, ◌++◌, ◌≢◌, ℕ, zero, suc, ◌+◌, ◌-◌, ◌*◌, ◌^◌, ◌≤◌, ◌<◌, length}
 use Rattle.std.proofs.Math.Path.{refl, ap}
-use Rattle.std.proofs.Common.{sym, ◌∙◌, ⊎_elim, zero-add, zero-mul, add-mul, add-one, arith, length-append, eq-eqb, ne_eqb}
+use Rattle.std.proofs.Common.{sym, ◌∙◌, ⊎_elim, zero-add, zero-mul, add-mul, add-one, arith, eq-eqb, ne_eqb}
 use Rattle.std.specs.Bool.{beq}
 use Rattle.prelude.specs.Blocks.{each}
 use Rattle.prelude.specs.Sums.{sum}
@@ -14,15 +14,15 @@ use Rattle.rows.specs.Rows.{literal_on}
 use Rattle.formula.specs.Clause.{run}
 use Rattle.formula.specs.Values.{count_below}
 use Rattle.formula.specs.Formula.{terminals, network_variables, X, P, L, formula_of}
-use Rattle.formula.specs.Formula.Range.{joined_in, chosen_in}
+use Rattle.formula.proofs.FormulaRange.{joined_in, chosen_in}
 use Rattle.formula_clauses.specs.Bounds.{variables_few}
 use Rattle.formula_clauses.specs.declared.Block.TheVariants.{Network}
 use Rattle.formula_clauses.specs.Block.{block_clauses, clauses_of, blocks_below}
 use Rattle.formula_clauses.specs.Block.Laws.{blocks_all}
 use Rattle.text.specs.Decimal.{decimal}
 use Rattle.text.specs.Decimal.Laws.{length_digit, length_high, length_is}
-use Rattle.text.specs.Text.{literal_text, literals_text, line_text}
-use Rattle.text.specs.Text.Laws.{literals_none, literals_length_lem, line_length, signed_length}
+use Rattle.text.specs.Text.{literal_text, literals_text}
+use Rattle.text.specs.Text.Laws.{literals_none, literals_length_lem, signed_length}
 use Rattle.lengths.specs.Lines.{literal_length, literals_length, lines_length, request_length}
 use Rattle.lengths.specs.Length.{run_length, chosen_at}
 

@@ -14,7 +14,7 @@ use Rattle.formula.specs.Values.{has_value}
 use Rattle.formula.specs.Values.Laws.{half_count, chosen_block}
 use Rattle.formula.specs.Formula.{terminals, X, P, L, S, net_sides, switch_sides, off_row}
 use Rattle.formula.specs.Formula.Laws.{pairs_count}
-use Rattle.formula.specs.Formula.OffRow.{net_pair, net_sides_rows, switch_pair, switch_block, switch_sides_blocks}
+use Rattle.formula.proofs.FormulaOffRow.{net_pair, net_sides_rows, switch_pair, switch_block, switch_sides_blocks}
 use Rattle.lengths.specs.Lines.{literal_length, lines_length}
 use Rattle.lengths.specs.Length.{run_length, chosen_of, chosen_length}
 use Rattle.lengths.specs.Length.Laws.{lines_append, lines_each, sum_where}

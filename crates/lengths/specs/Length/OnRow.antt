@@ -9,7 +9,7 @@ use Rattle.std.proofs.Math.Nat.{add-mul, mul-add}
 use native.Mathlib.Omega.{arith}
 use Rattle.std.proofs.Math.Dec.{eqb}
 use borrow.Author.Tests.{eq-eqb, ne_eqb}
-use Rattle.prelude.specs.Blocks.{each, for}
+use Rattle.prelude.specs.Blocks.{for}
 use Rattle.prelude.specs.Sums.{sum}
 use Rattle.prelude.specs.Sums.Laws.{sum_same, sum_add, sum_times, sum_const, sum_without}
 use Rattle.cnf.specs.Cnf.{pos, neg}
@@ -19,7 +19,7 @@ use Rattle.formula.specs.Values.{has_value}
 use Rattle.formula.specs.Values.Laws.{half_count}
 use Rattle.formula.specs.Formula.{terminals, X, L, W, some_step, closed_step, first_step, link_step, last_step, on_row}
 use Rattle.formula.specs.Formula.Laws.{joined_low, joined_high}
-use Rattle.formula.specs.Formula.OnRow.{unless, some_clause, closed_clause, closed_end, zero_start, first_clause, first_is, link_clause, link_end, link_end_is}
+use Rattle.formula.proofs.FormulaOnRow.{unless, some_clause, closed_clause, closed_end, zero_start, first_clause, first_is, link_clause, link_end, link_end_is}
 use Rattle.lengths.specs.Lines.{literal_length, literals_length, lines_length}
 use Rattle.lengths.specs.Length.{run_length, chosen_of, chosen_length, joined_to, joined_ends, ends_length, stop_length, step_length, steps_length, link_length, links_length}
 use Rattle.lengths.specs.Length.Laws.{lines_append, lines_each, run_length_lem, sum_where}

@@ -11,9 +11,9 @@ use Rattle.formula_clauses.specs.Store.{stored_formula, stored_variables, store_
 use Rattle.lrat.specs.Words.{text_limit}
 use Rattle.lrat.specs.Bytes.{zeros}
 use Rattle.lrat.specs.Check.{Left, lines_of}
-use Rattle.lrat.specs.Check.Laws.{lines_coded}
+use Rattle.lrat.proofs.CheckLaws.{lines_coded}
 use Rattle.lrat.specs.Outcome.{number_of, values_of, outcome_of}
-use Rattle.lrat.specs.Outcome.Laws.{outcome_number_lem, refused_numbered}
+use Rattle.lrat.proofs.OutcomeLaws.{outcome_number_lem, refused_numbered}
 use Rattle.lrat.specs.declared.Outcome.{Outcome}
 use Rattle.lrat.specs.declared.Outcome.TheVariants.{Refused}
 use Rattle.lrat_check.specs.Refutation.{Lent, lent, refusal_before, lines_for, check_number, check_values, check_answer, check_leaves}

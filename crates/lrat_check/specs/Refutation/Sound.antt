@@ -10,12 +10,12 @@ use Rattle.request.specs.declared.Request.{Request}
 use Rattle.network.specs.Least.{MoreThan}
 use Rattle.formula_clauses.specs.Store.{stored_formula, stored_variables, store_refusal}
 use Rattle.formula_clauses.specs.Store.Laws.{none_taken}
-use Rattle.lrat.specs.Check.Sound.{none_sound}
+use Rattle.lrat.proofs.CheckSound.{none_sound}
 use Rattle.lrat.specs.Outcome.{outcome_number}
-use Rattle.lrat.specs.Outcome.Laws.{none_code}
+use Rattle.lrat.proofs.OutcomeLaws.{none_code}
 use Rattle.lrat.specs.declared.Outcome.{Outcome}
 use Rattle.lrat.specs.declared.Outcome.TheVariants.{None, Refused}
-use Rattle.encoding.specs.Least.{unsat_least}
+use Rattle.encoding.proofs.Least.{unsat_least}
 use Rattle.lrat_check.specs.Refutation.{Lent, refusal_before, lines_for, check_number, check_answer}
 use Rattle.lrat_check.specs.Refutation.Laws.{answer_number, answer_numbered}
 

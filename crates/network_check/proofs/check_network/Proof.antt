@@ -3,14 +3,13 @@
 use mathlib.Core.Path.{◌≡◌, sym, ap, ◌∙◌, subst}
 use mathlib.Core.Bool.{true}
 use borrow.Author.Rules.{rules}
-use borrow.Author.Tests.{not-true, not-false}
 use Rattle.request.specs.Numbers.{Good, refusal_of}
-use Rattle.request.specs.Numbers.Laws.{refusal_good}
+use Rattle.request.proofs.NumbersLaws.{refusal_good}
 use Rattle.network.specs.Check.{fitting, number_of, values_of, checked_number, checked_values, checked_of}
-use Rattle.network.specs.Check.Numbers.{checked_number_lem, checked_values_lem}
-use Rattle.network.specs.Check.Laws.{checked_refused, checked_size, checked_literals, checked_labels, checked_rows, form_right}
+use Rattle.network.proofs.CheckNumbers.{checked_number_lem, checked_values_lem}
+use Rattle.network.proofs.CheckLaws.{checked_refused, checked_size, checked_literals, checked_labels, checked_rows, form_right}
 use Rattle.network.specs.Meaning.{Means}
-use Rattle.network.specs.Meaning.Laws.{checked_means}
+use Rattle.network.proofs.MeaningLaws.{checked_means}
 use Rattle.network.specs.declared.Checked.{Checked}
 use Rattle.network_check.proofs.check_network.Statement.{statement}
 use Rattle.network_check.proofs.check_network.Tie as tie
@@ -28,70 +27,70 @@ answered c e = (
 )
 
 -- past the first test the request is not refused, so it is good
-accepted : (c : tie.Else1) → refusal_of c.before.before.args.q ≡ 0
-accepted c = sym c.before.test-request.ensures ∙ c.if1.false
+accepted : (c : tie.Else-refusal-ne0) → refusal_of c.before.before.args.q ≡ 0
+accepted c = sym c.before.test_request-refusal.ensures ∙ c.if-refusal-ne0.false
 
-good : (c : tie.Else1) → Good c.before.before.args.q
+good : (c : tie.Else-refusal-ne0) → Good c.before.before.args.q
 good c = refusal_good _ (accepted c)
 
 -- the place after the first test, from the last
-abbrev tested : tie.Else4 → tie.Else1
+abbrev tested : tie.Else-not-labels_lowest → tie.Else-refusal-ne0
 tested c = c.before.before.before.before.before.before.before.before.before
 
 -- where the tests of the form have passed, the network has it
-formed : (c : tie.Else4) → fitting (tested c).before.before.args.q (tested c).before.before.args.w ≡ true
+formed : (c : tie.Else-not-labels_lowest) → fitting (tested c).before.before.args.q (tested c).before.before.args.w ≡ true
 formed c =
     let passed = c.before.before.before in
-    form_right _ _ passed.before.before.before.if2.false _ passed.before.literals_low_lem.ensures (not-false _ passed.if3.false)
-    _ c.before.labels-lowest.ensures (not-false _ c.if4.false)
+    form_right _ _ passed.before.before.before.if-w-q.false _ passed.before.literals_low.ensures passed.if-not-literals_low.false
+    _ c.before.labels_lowest.ensures c.if-not-labels_lowest.false
 
-test-request-requires : tie.Need-test-request-requires
-test-request-requires c κs = search rules
+test_request-refusal-requires : tie.Need-test_request-refusal-requires
+test_request-refusal-requires c κs = search rules
 
-returns : tie.Need-returns
-returns c = answered c.before.before (checked_refused _ _ _ c.before.test-request.ensures c.if1.true)
+returns-then-refusal-ne0 : tie.Need-returns-then-refusal-ne0
+returns-then-refusal-ne0 c = answered c.before.before (checked_refused _ _ _ c.before.test_request-refusal.ensures c.if-refusal-ne0.true)
 
-returns-2 : tie.Need-returns-2
-returns-2 c =
+returns-then-w-q : tie.Need-returns-then-w-q
+returns-then-w-q c =
     let t = c.before.before.before in
-    answered t.before.before (checked_size _ _ (accepted t) c.if2.true)
+    answered t.before.before (checked_size _ _ (accepted t) c.if-w-q.true)
 
-literals-low-requires : tie.Need-literals-low-requires
-literals-low-requires c κs = let g = good c.before.before.before.before in (g.n_high, g.r_high)
+literals_low-requires : tie.Need-literals_low-requires
+literals_low-requires c κs = let g = good c.before.before.before.before in (g.n_high, g.r_high)
 
-returns-3 : tie.Need-returns-3
-returns-3 c =
+returns-then-not-literals_low : tie.Need-returns-then-not-literals_low
+returns-then-not-literals_low c =
     let t = c.before.before.before.before.before.before in
     answered t.before.before
-    (checked_literals _ _ (accepted t) _ c.before.literals_low_lem.ensures (not-true _ c.if3.true))
+    (checked_literals _ _ (accepted t) _ c.before.literals_low.ensures c.if-not-literals_low.true)
 
-labels-lowest-requires : tie.Need-labels-lowest-requires
-labels-lowest-requires c κs = (good c.before.before.before.before.before.before.before).r_high
+labels_lowest-requires : tie.Need-labels_lowest-requires
+labels_lowest-requires c κs = (good c.before.before.before.before.before.before.before).r_high
 
-returns-4 : tie.Need-returns-4
-returns-4 c =
+returns-then-not-labels_lowest : tie.Need-returns-then-not-labels_lowest
+returns-then-not-labels_lowest c =
     let t = c.before.before.before.before.before.before.before.before.before in
     answered t.before.before
-    (checked_labels _ _ (accepted t) _ c.before.labels-lowest.ensures (not-true _ c.if4.true))
+    (checked_labels _ _ (accepted t) _ c.before.labels_lowest.ensures c.if-not-labels_lowest.true)
 
-check-rows-requires : tie.Need-check-rows-requires
-check-rows-requires c κs = (good (tested c), formed c)
+check_rows-requires : tie.Need-check_rows-requires
+check_rows-requires c κs = (good (tested c), formed c)
 
-returns-5 : tie.Need-returns-5
-returns-5 c =
+returns : tie.Need-returns
+returns c =
     let t = tested c.before in
-    answered t.before.before (c.check-rows.ensures ∙ checked_rows _ _ (accepted t) (formed c.before))
+    answered t.before.before (c.check_rows.ensures ∙ checked_rows _ _ (accepted t) (formed c.before))
 
-pub check-network-spec : {M : Type 1} → statement M
-check-network-spec =
+pub check_network_spec : {M : Type 1} → statement M
+check_network_spec =
     tie.close
     (tie.spec
-    test-request-requires
-    returns
-    returns-2
-    literals-low-requires
-    returns-3
-    labels-lowest-requires
-    returns-4
-    check-rows-requires
-    returns-5)
+    test_request-refusal-requires
+    returns-then-refusal-ne0
+    returns-then-w-q
+    literals_low-requires
+    returns-then-not-literals_low
+    labels_lowest-requires
+    returns-then-not-labels_lowest
+    check_rows-requires
+    returns)

@@ -7,9 +7,9 @@ use Rattle.network.specs.declared.Network.{Network}
 use Rattle.network.specs.declared.Checked.{Checked}
 use Rattle.network.specs.declared.Checked.TheVariants.{Does as does, Wrong, Refused as form_refused}
 use Rattle.network.specs.Check.{rows_answer, checked_of}
-use Rattle.network.specs.Check.Laws.{checked_rows}
+use Rattle.network.proofs.CheckLaws.{checked_rows}
 use Rattle.answer.specs.Reading.{reading_of}
-use Rattle.answer.specs.Reading.Meaning.{assignment_in, taken_request, taken_describes, described_fits}
+use Rattle.answer.proofs.ReadingMeaning.{assignment_in, taken_request, taken_describes, described_fits}
 use Rattle.lrat.specs.declared.Outcome.{Outcome}
 use Rattle.lrat.specs.declared.Outcome.TheVariants.{None, Refused as outcome_refused}
 use Rattle.lrat_check.specs.Refutation.{Lent, check_answer}

@@ -6,19 +6,18 @@ use Rattle.prelude.specs.Lists.Laws.{length_tab}
 use Rattle.cnf.specs.Cnf.{Assignment}
 use Rattle.request.specs.declared.Request.{Request}
 use Rattle.request.specs.Numbers.{switches_most}
-use Rattle.request.specs.Numbers.Laws.{refusal_good}
+use Rattle.request.proofs.NumbersLaws.{refusal_good}
 use Rattle.network.specs.declared.Network.{Network}
-use Rattle.network.specs.declared.Checked.TheVariants.{Does as does}
 use Rattle.network.specs.Networks.{Net, switches, FormedAs, Formed, Does}
-use Rattle.network.specs.Networks.Laws.{does_with}
+use Rattle.network.proofs.NetworksLaws.{does_with}
 use Rattle.network.specs.Check.{checked_of}
 use Rattle.network.specs.Value.{terminals_most, listed}
 use Rattle.network.specs.Least.{LeastFor}
 use Rattle.network.specs.Meaning.{Means}
-use Rattle.network.specs.Meaning.Laws.{checked_means}
+use Rattle.network.proofs.MeaningLaws.{checked_means}
 use Rattle.answer.specs.Decode.{decoded}
 use Rattle.answer.specs.Reading.{reading_of}
-use Rattle.answer.specs.Reading.Meaning.{assignment_in, taken_request, taken_describes}
+use Rattle.answer.proofs.ReadingMeaning.{assignment_in, taken_request, taken_describes}
 use Rattle.lrat_check.specs.Refutation.{Lent}
 use Rattle.lrat_check.specs.Refutation.Sound.{none_more}
 use Rattle.settle.specs.declared.Settlement.{Settlement}

@@ -14,15 +14,15 @@ use Rattle.cnf.specs.Cnf.{Assignment, Clause, Formula, clause_holds, Sat}
 use Rattle.request.specs.declared.Request.{Request}
 use Rattle.request.specs.Numbers.{switches_most, Good}
 use Rattle.formula.specs.Formula.{terminals, X, L, transitivity, choices, formula, formula_of}
-use Rattle.formula.specs.Formula.Range.{ClauseIn, joined_in, chosen_in, transitivity_in, choices_in}
+use Rattle.formula.proofs.FormulaRange.{ClauseIn, joined_in, chosen_in, transitivity_in, choices_in}
 use Rattle.formula.specs.Number.{clause_of}
-use Rattle.formula.specs.Number.Laws.{clause_good, in_nets, in_choices}
+use Rattle.formula.proofs.NumberLaws.{clause_good, in_nets, in_choices}
 use Rattle.answer.specs.Values.{kept}
 use Rattle.answer.specs.Decode.{lowest, literal_for, label_for, decoded}
 use Rattle.cnf.specs.Cnf.Laws.{sat_at}
 use Rattle.network.specs.Value.{terminals_most}
 use Rattle.formula.specs.Count.{network_count}
-use Rattle.formula.specs.Count.Laws.{network_length}
+use Rattle.formula.proofs.CountLaws.{network_length}
 use Rattle.cnf.specs.Cnf.Parts.{Sat-split}
 
 -- ---- tests that agree on a range

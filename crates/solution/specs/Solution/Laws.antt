@@ -7,20 +7,20 @@ use Rattle.prelude.specs.Lists.Laws.{length_tab}
 use Rattle.cnf.specs.Cnf.{Assignment, Sat}
 use Rattle.request.specs.declared.Request.{Request}
 use Rattle.request.specs.Numbers.{Good, refusal_of}
-use Rattle.request.specs.Numbers.Laws.{refusal_good}
+use Rattle.request.proofs.NumbersLaws.{refusal_good}
 use Rattle.formula.specs.Count.{network_count, values_most, variables_before, variable_count}
 use Rattle.formula.specs.Formula.{formula_of}
-use Rattle.formula.specs.Formula.Range.{variables_most_lem}
+use Rattle.formula.proofs.FormulaRange.{variables_most_lem}
 use Rattle.numeral.specs.Number.{byte_at}
 use Rattle.text.specs.Text.{line_text}
 use Rattle.answer.specs.Lines.{stands_at, solution_line, formed}
 use Rattle.answer.specs.Lines.Laws.{form_first}
 use Rattle.answer.specs.Values.{kept, named, named_from, assigned}
-use Rattle.answer.specs.Values.Laws.{holding_all}
+use Rattle.answer.proofs.ValuesLaws.{holding_all}
 use Rattle.answer.specs.Decode.{decoded}
 use Rattle.answer.specs.Reading.{line, gave, line_step, lines_from, ended, reading_of}
-use Rattle.answer.specs.Reading.Laws.{step_solution, step_last, lines_more, lines_end, ended_taken, kept_most}
-use Rattle.answer.specs.Reading.Meaning.{reading_lines}
+use Rattle.answer.proofs.ReadingLaws.{step_solution, step_last, lines_more, lines_end, ended_taken, kept_most}
+use Rattle.answer.proofs.ReadingMeaning.{reading_lines}
 use Rattle.solution.specs.Solution.{truth, truths, answer_text}
 use Rattle.solution.specs.Solution.Numerals.{byte_here, past_one, Short}
 use Rattle.solution.specs.Solution.Line.{Spaced, Ended, form_line, line_many}

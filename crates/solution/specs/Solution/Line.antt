@@ -11,7 +11,7 @@ use Rattle.text.specs.Text.Laws.{literals_none, literals_more, line_text_lem}
 use Rattle.answer.specs.Lines.{formed, form_from}
 use Rattle.answer.specs.Lines.Laws.{form_more, form_last}
 use Rattle.answer.specs.Values.{named, refused_by, kept_by, named_from}
-use Rattle.answer.specs.Values.Laws.{name_zero, name_more}
+use Rattle.answer.proofs.ValuesLaws.{name_zero, name_more}
 use Rattle.solution.specs.Solution.Numerals.{past_one, byte_here, place_in, minus_of, end_of, Short, ReadAs, literal_here}
 
 -- a line from the space before its first literal on

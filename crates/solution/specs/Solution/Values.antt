@@ -14,7 +14,7 @@ use Rattle.prelude.specs.Lists.Laws.{length_tab, get_d_tab}
 use Rattle.cnf.specs.Cnf.{Assignment, pos, neg}
 use Rattle.cnf.specs.declared.Literal.{Literal}
 use Rattle.answer.specs.Values.{named, refused_by, kept_by, named_from, complete, assigned}
-use Rattle.answer.specs.Values.Laws.{refused_other, refused_again, kept_in, kept_out, complete_all}
+use Rattle.answer.proofs.ValuesLaws.{refused_other, refused_again, kept_in, kept_out, complete_all}
 use Rattle.answer.specs.Decode.Laws.{fill_more}
 use Rattle.formula.specs.Count.{values_most}
 use Rattle.solution.specs.Solution.{truth, truths}

@@ -7,7 +7,7 @@ use Rattle.prelude.specs.Blocks.Laws.{flatten_one, flatten_append}
 use Rattle.std.proofs.Math.IntN as Z
 use Rattle.prelude.specs.Lists.{Each}
 use Rattle.prelude.specs.Signed.{is_negative, variable}
-use Rattle.cnf.specs.Cnf.{pos, Clause, signed_of}
+use Rattle.cnf.specs.Cnf.{Clause, signed_of}
 use Rattle.cnf.specs.declared.Literal.{Literal}
 use Rattle.text.specs.Decimal.{decimal}
 use Rattle.text.specs.Text.{literal_text, literals_text, line_text, signed_text, number_text, numbers_text}

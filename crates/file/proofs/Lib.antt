@@ -1,0 +1,2 @@
+-- Theorems about what the program writes. Assumes nothing.
+pub mod OutputLaws

@@ -1,0 +1,44 @@
+-- What the program writes, by the answer of writing the file. Assumes nothing.
+use Rattle.std.specs.Prelude.{cond, List, [], ◌∷◌, ℕ, eqb, length, take, ◌≡◌, refl, get_or}
+use Rattle.std.proofs.Common.{sym, ap, arith, eq-eqb, ne_eqb, drop, ◌+◌}
+use Rattle.std.proofs.Math.Logic.{⊎_elim}
+use Rattle.std.proofs.Math.Seq.{take_at}
+use Rattle.prelude.specs.Tests.{eq?}
+use Rattle.prelude.specs.Written.{written}
+use Rattle.request.specs.declared.Request.{Request}
+use Rattle.dimacs.specs.declared.Answer.TheVariants.{Bytes, Refused}
+use Rattle.dimacs.specs.File.{file_text, write_number, write_values, write_answer, file_written}
+use Rattle.file.specs.Output.{refused_text}
+
+-- a text written at the start, as far as it goes
+taken : (old t : List ℕ) → take (length t) (written old 0 t) ≡ t
+unfolding written
+taken old t = take_at t (drop (0 + length t) old) (length t) refl
+
+-- the text for a request, by the room for its file
+abbrev pub text_within : Request → ℕ → List ℕ
+text_within q room = cond (eqb (write_number q room) 0) (file_text q) (refused_text (write_number q room))
+
+-- a length is that of the file, which stands in the buffer
+pub length_text : (q : Request) (old : List ℕ) (k : ℕ) (after : List ℕ) → 0 ≡ write_number q (length old)
+    → k ∷ [] ≡ write_values q (length old) → after ≡ file_written q old → take k after ≡ text_within q (length old)
+unfolding write_values file_written
+length_text q old k after n v a =
+    let z = eq-eqb (write_number q (length old)) 0 (sym n) in
+    let e : k ∷ [] ≡ length (file_text q) ∷ [] = (rw z at v) in
+    let b : after ≡ written old 0 (file_text q) = (rw z at a) in
+    let s : k ≡ length (file_text q) = ap (λ (l : List ℕ). get_or l 0 0) e in
+    rw z (rw s (rw b (taken old (file_text q))))
+
+-- a refusal's number is not 0
+pub refusal_text : (q : Request) (room x : ℕ) → Refused x ≡ write_answer q room → x ≡ write_number q room
+    → refused_text x ≡ text_within q room
+unfolding write_answer
+refusal_text q room x a n =
+    ⊎_elim
+    (λ (z : write_number q room ≡ 0).
+    absurd
+    (let f : Refused x ≡ Bytes (length (file_text q)) = (rw (eq-eqb (write_number q room) 0 z) at a) in
+    let y : ◌≡◌ {A = ℕ} 0 1 = cc in omega arith))
+    (λ (d : write_number q room ≡ 0 → ⊥). rw (ne_eqb (write_number q room) 0 d) (ap refused_text n))
+    (eq? (write_number q room) 0)

@@ -1,0 +1,28 @@
+-- `parts::switch_sides_length` meets its contract. Assumes nothing.
+use mathlib.Core.Path.{ap}
+use Prim.Native.Nat.{ℕ, ◌+◌, ◌*◌, ◌≤◌}
+use native.Mathlib.Nat.{mul-le-mul}
+use native.Mathlib.Omega.{arith}
+use Rattle.lengths.specs.Length.OffRow.{switch_sides_size}
+use Rattle.lengths.proofs.parts.switch_sides_length.Goals as goal
+
+pub overflow_mul-result-3 : goal.overflow_mul-result-3
+overflow_mul-result-3 c =
+    let most : c.args.n * (8 * c.args.r + 2 * c.run_length-ends.result) ≤ 8 * 480 = let a = c.args in
+    mul-le-mul {n₁ = a.n} {m₁ = 8 * a.r + 2 * c.run_length-ends.result} {n₂ = 8} {m₂ = 480} (omega arith) (omega arith) in
+    omega (arith, most)
+
+pub overflow_add-result-2 : goal.overflow_add-result-2
+overflow_add-result-2 c =
+    let most : c.args.n * (8 * c.args.r + 2 * c.run_length-ends.result) ≤ 8 * 480 = let a = c.args in
+    mul-le-mul {n₁ = a.n} {m₁ = 8 * a.r + 2 * c.run_length-ends.result} {n₂ = 8} {m₂ = 480} (omega arith) (omega arith) in
+    omega (arith, most)
+
+pub returns : goal.returns
+returns c =
+    let most : c.args.n * (8 * c.args.r + 2 * c.run_length-ends.result) ≤ 8 * 480 = let a = c.args in
+    mul-le-mul {n₁ = a.n} {m₁ = 8 * a.r + 2 * c.run_length-ends.result} {n₂ = 8} {m₂ = 480} (omega arith) (omega arith) in
+    let a = c.args in
+    let s = ap (λ (x : ℕ). a.n * (8 * a.r + 2 * x)) c.run_length-ends.ensures.0 in
+    let e = switch_sides_size a.r a.before a.n a.k in
+    (omega (arith, s, e, c.chosen_length.ensures.0), omega (arith, most, c.chosen_length.ensures.1))

@@ -1,0 +1,409 @@
+-- A line by its tests, and the lines one by one. Assumes nothing.
+use Rattle.std.specs.Prelude.{◌≡◌, refl, Bool, true, not, ◌&&◌, cond, List, ◌⊎◌, eqb, ltb, length}
+use Rattle.std.proofs.Math.Path.{sym, ap}
+use Rattle.std.proofs.Common.{◌∙◌, subst, inl, inr, arith}
+use Rattle.std.proofs.Math.Bool.{false}
+use Prim.Native.Nat.{ℕ, zero, suc, ◌+◌, ◌-◌, ◌*◌, ◌≤◌, ◌<◌}
+use borrow.Author.Tests.{ltb-false, eq-eqb, ne_eqb, lt-ltb, le-ltb}
+use Rattle.prelude.specs.Tests.{eq?}
+use Rattle.cnf.specs.Cnf.{Formula}
+use Rattle.numeral.specs.declared.Word.{Word}
+use Rattle.numeral.specs.Number.{byte_at, literal_at}
+use Rattle.numeral.specs.Number.Places.{byte_in}
+use Rattle.lrat.specs.declared.HintsRead.{HintsRead}
+use Rattle.lrat.specs.declared.LiteralsRead.{LiteralsRead}
+use Rattle.lrat.specs.declared.Step.{Step}
+use Rattle.lrat.specs.Rules.{Values, unset, falsified, literals_good}
+use Rattle.lrat.specs.Words.{plain_at, literals_at, ids_at, Run, run_at, Line, no_line, addition, deletion, deletion_at, addition_at, line_at}
+use Rattle.lrat.specs.Words.Laws.{plain_reads, literal_reads, read_there, literals_none, literals_more, run_last, run_more, run_spaced, run_worded}
+use Rattle.lrat.specs.Words.Lines.{Ran, ran, deletion_none, deletion_open, deletion_good, addition_none, addition_hintless, addition_open, addition_good, line_none, line_open, line_deletion, line_addition}
+use Rattle.lrat.specs.Bytes.{AfterLiterals}
+use Rattle.lrat.specs.State.{hints_of, Deleted, deleted, delete_all, AddedInText, AfterHints}
+use Rattle.lrat.proofs.StateAdded.{good_below, spelled_at, additions_more, additions_deleted}
+use Rattle.lrat.specs.Check.{Left, left, stop, leaves, stopped, is_empty, pushed, concluded, add_step, delete_step, step_of, line_step, on_left, lines_from, lines_of}
+
+-- what is known of a line that stops is so of what the code returns
+pub stops_as : {r : Step} {k a : ℕ} {added : List ℕ} {l : Left} → r ≡ stopped k a → stop k a added ≡ l → leaves r added ≡ l
+stops_as {added = added} e f = ap (λ (x : Step). leaves x added) e ∙ f
+
+-- ---- whether a run of the form has any literal
+pub run_empty : (t : List ℕ) (p : ℕ) → ((run_at literal_at t p).next ≡ 0 → ⊥) → is_empty (literals_at t p) ≡ eqb (run_at literal_at t p).end p
+run_empty t p d = go (eq? (literal_at t (p + 1)).value 0)
+  where
+    space : byte_at t p ≡ 32
+    space = run_spaced literal_at literal_reads t p d
+
+    there : (literal_at t (p + 1)).next ≡ 0 → ⊥
+    there = run_worded literal_at literal_reads t p d
+
+    go : ((literal_at t (p + 1)).value ≡ 0) ⊎ ((literal_at t (p + 1)).value ≡ 0 → ⊥) → is_empty (literals_at t p) ≡ eqb (run_at literal_at t p).end p
+    go (inl z) =
+        let r = run_last literal_at literal_reads t p (literal_at t (p + 1)) refl space there z in
+        ap is_empty (literals_none t p (literal_at t (p + 1)) refl z) ∙ sym (eq-eqb (run_at literal_at t p).end p (ap (λ (q : Run). q.end) r))
+    go (inr n) =
+        let r = run_more literal_at literal_reads t p (literal_at t (p + 1)) refl space there n in
+        let e = read_there literal_at literal_reads t (p + 1) there in
+        let k = ran literal_at literal_reads t (literal_at t (p + 1)).next (λ z. d (ap (λ (q : Run). q.next) r ∙ z)) in
+        let s : (run_at literal_at t p).end ≡ (run_at literal_at t (literal_at t (p + 1)).next).end = ap (λ (q : Run). q.end) r in
+        ap is_empty (literals_more t p (literal_at t (p + 1)) refl n) ∙ sym (ne_eqb (run_at literal_at t p).end p (λ z. omega (arith, e.low, k.low)))
+
+-- ---- an addition, after the two passes over its line
+module _ (F : Formula) (t : List ℕ) (variables a : ℕ) (added : List ℕ) (id p stamp : ℕ) (ls : LiteralsRead) (vs : List ℕ) (passed : AfterLiterals stamp variables t p ls vs) where
+  abbrev Is : Left → Type 0
+  Is l = l ≡ step_of F t variables a added (addition_at t id p)
+
+  pub add_literals : ls.next ≡ 0 → Is (stop 16 a added)
+  unfolding step_of
+  add_literals z = sym (ap (step_of F t variables a added) (addition_none t id p ls.end ls.next passed.form z))
+
+  module _ (there : ls.next ≡ 0 → ⊥) (hs : HintsRead) (us : List ℕ) (hints : AfterHints F t ls.next a added stamp vs hs us) where
+    pub add_hints : hs.next ≡ 0 → Is (stop 16 a added)
+    unfolding step_of
+    add_hints z = sym (ap (step_of F t variables a added) (addition_hintless t id p ls.end ls.next passed.form there hs.next hints.form z))
+
+    module _ (read : hs.next ≡ 0 → ⊥) where
+      pub add_open : (byte_at t hs.next ≡ 10 → ⊥) → Is (stop 16 a added)
+      unfolding step_of
+      add_open o = sym (ap (step_of F t variables a added) (addition_open t id p ls.end ls.next passed.form there hs.next hints.form read o))
+
+      module _ (closed : byte_at t hs.next ≡ 10) where
+        good_form : addition_at t id p ≡ addition id p ls.end ls.next (hs.next + 1)
+        good_form = addition_good t id p ls.end ls.next passed.form there hs.next hints.form read closed
+
+        by : (l : Left) → l ≡ add_step F t variables a added id p ls.end ls.next (hs.next + 1) → Is l
+        unfolding step_of
+        by l e = e ∙ sym (ap (step_of F t variables a added) good_form)
+
+        pub add_id : (id ≡ length F + a + 1 → ⊥) → Is (stop 17 a added)
+        unfolding add_step
+        add_id d = by _ (rw (ne_eqb id (length F + a + 1) d))
+
+        module _ (same : id ≡ length F + a + 1) where
+          pub add_bad : ls.good ≡ false → Is (stop 18 a added)
+          unfolding add_step
+          add_bad e =
+              let q : literals_good variables (literals_at t p) ≡ false = sym (passed.good there) ∙ e in
+              by _ (rw (eq-eqb id (length F + a + 1) same, q))
+
+          module _ (good : ls.good ≡ true) where
+            good_is : literals_good variables (literals_at t p) ≡ true
+            good_is = sym (passed.good there) ∙ good
+
+            formed : (run_at literal_at t p).next ≡ 0 → ⊥
+            formed z = there (ap (λ (q : Run). q.next) passed.form ∙ z)
+
+            empty_is : is_empty (literals_at t p) ≡ eqb ls.end p
+            empty_is = run_empty t p formed ∙ ap (λ (q : Run). eqb q.end p) (sym passed.form)
+
+            hints_are : hints_of F t a added (falsified unset (literals_at t p)) ls.next ≡ hs.code
+            hints_are = sym (hints.code read ∙ ap (λ (τ : Values). hints_of F t a added τ ls.next) (passed.vals there good))
+
+            pub add_full : (ls.end ≡ p → ⊥) → length added < 2 * a + 2 → Is (stop 22 a added)
+            unfolding add_step
+            add_full d h = by _ (rw (eq-eqb id (length F + a + 1) same, good_is, empty_is, ne_eqb ls.end p d, lt-ltb (length added) (2 * a + 2) h))
+
+            pub add_none : ls.end ≡ p → hs.code ≡ 0 → Is (stop 1 a added)
+            unfolding add_step concluded
+            add_none e z = by _ (rw (eq-eqb id (length F + a + 1) same, good_is, empty_is, eq-eqb ls.end p e, hints_are, eq-eqb hs.code 0 z))
+
+            pub add_empty : ls.end ≡ p → (hs.code ≡ 0 → ⊥) → Is (stop hs.code a added)
+            unfolding add_step concluded
+            add_empty e z = by _ (rw (eq-eqb id (length F + a + 1) same, good_is, empty_is, eq-eqb ls.end p e, hints_are, ne_eqb hs.code 0 z))
+
+            module _ (some : ls.end ≡ p → ⊥) (room : 2 * a + 2 ≤ length added) where
+              pub add_refused : (hs.code ≡ 0 → ⊥) → Is (stop hs.code a added)
+              unfolding add_step concluded
+              add_refused z = by _ (rw (eq-eqb id (length F + a + 1) same, good_is, empty_is, ne_eqb ls.end p some, le-ltb (length added) (2 * a + 2) room, hints_are, ne_eqb hs.code 0 z))
+
+              pub add_pushed : hs.code ≡ 0 → Is (left 0 (a + 1) (hs.next + 1) (pushed added a p ls.end))
+              unfolding add_step concluded
+              add_pushed z = by _ (rw (eq-eqb id (length F + a + 1) same, good_is, empty_is, ne_eqb ls.end p some, le-ltb (length added) (2 * a + 2) room, hints_are, eq-eqb hs.code 0 z))
+
+              -- the literals have a byte at least
+              pub add_length : p + 1 < ls.end
+              add_length =
+                  let r = ran literal_at literal_reads t p formed in
+                  let e : ls.end ≡ (run_at literal_at t p).end = ap (λ (q : Run). q.end) passed.form in
+                  omega (arith, r.full (λ z. some (e ∙ z)))
+
+  -- the places of the two runs
+  pub add_inside : (ls.next ≡ 0 → ⊥) → (p ≤ ls.end) × (ls.end < ls.next) × (ls.next ≤ length t)
+  add_inside d =
+      let r = ran literal_at literal_reads t p (λ z. d (ap (λ (q : Run). q.next) passed.form ∙ z)) in
+      let e : ls.end ≡ (run_at literal_at t p).end = ap (λ (q : Run). q.end) passed.form in
+      let n : ls.next ≡ (run_at literal_at t p).next = ap (λ (q : Run). q.next) passed.form in
+      (omega (arith, r.low), omega (arith, r.mid), omega (arith, r.high))
+
+-- ---- a deletion, after its form was read
+module _ (F : Formula) (t : List ℕ) (variables a : ℕ) (added : List ℕ) (p e : ℕ) (is : e ≡ (run_at plain_at t p).next) where
+  pub delete_formless : e ≡ 0 → stop 16 a added ≡ step_of F t variables a added (deletion_at t p)
+  unfolding step_of
+  delete_formless z = sym (ap (step_of F t variables a added) (deletion_none t p e is z))
+
+  pub delete_open : (e ≡ 0 → ⊥) → (byte_at t e ≡ 10 → ⊥) → stop 16 a added ≡ step_of F t variables a added (deletion_at t p)
+  unfolding step_of
+  delete_open d o = sym (ap (step_of F t variables a added) (deletion_open t p e is d o))
+
+  pub delete_done : (e ≡ 0 → ⊥) → byte_at t e ≡ 10 → (C k : ℕ) (l : List ℕ) → C ≡ length F → deleted k l ≡ delete_all C a added (ids_at t p)
+      → left k a (e + 1) l ≡ step_of F t variables a added (deletion_at t p)
+  unfolding step_of delete_step
+  delete_done d o C k l q s =
+      let w : deleted k l ≡ delete_all (length F) a added (ids_at t p) = s ∙ ap (λ (n : ℕ). delete_all n a added (ids_at t p)) q in
+      ap (λ (x : Deleted). left x.code a (e + 1) x.added) w ∙ sym (ap (step_of F t variables a added) (deletion_good t p e is d o))
+
+  pub deletion_inside : (e ≡ 0 → ⊥) → (p < e) × (e ≤ length t)
+  deletion_inside d =
+      let r = ran plain_at plain_reads t p (λ z. d (is ∙ z)) in
+      (omega (arith, r.low, r.mid), omega (arith, r.high))
+
+-- ---- a line, by what follows its id
+module _ (F : Formula) (t : List ℕ) (variables a : ℕ) (added : List ℕ) (p : ℕ) (w : Word) (is : w ≡ plain_at t p) where
+  pub step_none : w.next ≡ 0 → stop 16 a added ≡ line_step F t variables a added p
+  unfolding line_step step_of
+  step_none z = sym (ap (step_of F t variables a added) (line_none t p w is z))
+
+  module _ (there : w.next ≡ 0 → ⊥) where
+    pub step_open : (byte_at t w.next ≡ 32 → ⊥) → stop 16 a added ≡ line_step F t variables a added p
+    unfolding line_step step_of
+    step_open d = sym (ap (step_of F t variables a added) (line_open t p w is there d))
+
+    pub step_deletion : byte_at t w.next ≡ 32 → byte_at t (w.next + 1) ≡ 100 → step_of F t variables a added (deletion_at t (w.next + 2)) ≡ line_step F t variables a added p
+    unfolding line_step
+    step_deletion e d = sym (ap (step_of F t variables a added) (line_deletion t p w is there e d))
+
+    pub step_addition : byte_at t w.next ≡ 32 → (byte_at t (w.next + 1) ≡ 100 → ⊥) → step_of F t variables a added (addition_at t w.value w.next) ≡ line_step F t variables a added p
+    unfolding line_step
+    step_addition e d = sym (ap (step_of F t variables a added) (line_addition t p w is there e d))
+
+-- ---- a line after which the check goes on: further in the text, and every added clause lies in it
+pub record Went (t : List ℕ) (n p : ℕ) (l : Left) : Type 0 where
+  pub low : p < l.next
+  pub high : l.next ≤ length t
+  pub additions : AddedInText t l.a l.added n
+
+abbrev Goes : List ℕ → ℕ → ℕ → Left → Type 0
+Goes t n p l = l.code ≡ 0 → Went t n p l
+
+stops : (t : List ℕ) (n p k a : ℕ) (added : List ℕ) → (k ≡ 0 → ⊥) → Goes t n p (stop k a added)
+stops t n p k a added d e = absurd (d e)
+
+module _ (F : Formula) (t : List ℕ) (variables a : ℕ) (added : List ℕ) (q : ℕ) (additions : AddedInText t a added (variables + 1)) where
+  deletion_goes : (p : ℕ) → q < p → Goes t (variables + 1) q (step_of F t variables a added (deletion_at t p))
+  unfolding step_of delete_step
+  deletion_goes p l = go (eq? (run_at plain_at t p).next 0) (eq? (byte_at t (run_at plain_at t p).next) 10) (ran plain_at plain_reads t p)
+    where
+      e : ℕ
+      e = (run_at plain_at t p).next
+
+      go : (e ≡ 0) ⊎ (e ≡ 0 → ⊥) → (byte_at t e ≡ 10) ⊎ (byte_at t e ≡ 10 → ⊥) → ((e ≡ 0 → ⊥) → Ran t p (run_at plain_at t p))
+          → Goes t (variables + 1) q (step_of F t variables a added (deletion_at t p))
+      go (inl z) b k = rw (deletion_none t p e refl z) (stops t (variables + 1) q 16 a added (λ y. omega arith))
+      go (inr d) (inr o) k = rw (deletion_open t p e refl d o) (stops t (variables + 1) q 16 a added (λ y. omega arith))
+      go (inr d) (inl o) k =
+          rw (deletion_good t p e refl d o) (λ _. record {
+            low = omega (arith, (k d).low, (k d).mid);
+            high = omega (arith, byte_in t e (λ y. omega arith));
+            additions = additions_deleted t (length F) a (ids_at t p) added (variables + 1) additions;
+          })
+
+  addition_goes : (id p : ℕ) → q < p → Goes t (variables + 1) q (step_of F t variables a added (addition_at t id p))
+  unfolding step_of add_step concluded
+  addition_goes id p l =
+      go (eq? m.next 0) (eq? h.next 0) (eq? (byte_at t h.next) 10) (ran literal_at literal_reads t p) (ran plain_at plain_reads t m.next)
+    where
+      m : Run
+      m = run_at literal_at t p
+
+      h : Run
+      h = run_at plain_at t m.next
+
+      push : (m.next ≡ 0 → ⊥) → (h.next ≡ 0 → ⊥) → byte_at t h.next ≡ 10 → Ran t p m → Ran t m.next h → literals_good variables (literals_at t p) ≡ true
+          → (b : Bool) → is_empty (literals_at t p) ≡ b → (f : Bool) → ltb (length added) (2 * a + 2) ≡ f → (k : ℕ)
+          → Goes t (variables + 1) q (cond (not b && f) (stop 22 a added) (concluded k b a added p m.end (h.next + 1)))
+      push d e o r s g true z f w k c = absurd (no (eq? k 0) c)
+        where
+          no : (k ≡ 0) ⊎ (k ≡ 0 → ⊥) → (cond (eqb k 0) (stop 1 a added) (stop k a added)).code ≡ 0 → ⊥
+          no (inl y) x = let u : ◌≡◌ {A = ℕ} 1 0 = (rw (eq-eqb k 0 y) at x) in omega arith
+          no (inr y) x = y (rw (ne_eqb k 0 y) at x)
+      push d e o r s g false z true w k c = absurd (omega arith)
+      push d e o r s g false z false w k c = went (eq? k 0) c
+        where
+          room : 2 * a + 2 ≤ length added
+          room = ltb-false (length added) (2 * a + 2) w
+
+          went : (k ≡ 0) ⊎ (k ≡ 0 → ⊥) → (cond (eqb k 0) (left 0 (a + 1) (h.next + 1) (pushed added a p m.end)) (stop k a added)).code ≡ 0
+              → Went t (variables + 1) q (cond (eqb k 0) (left 0 (a + 1) (h.next + 1) (pushed added a p m.end)) (stop k a added))
+          went (inl y) x =
+              rw (eq-eqb k 0 y)
+              (record {
+                low = omega (arith, r.low, r.mid, s.low, s.mid);
+                high = omega (arith, byte_in t h.next (λ u. omega arith));
+                additions = additions_more t a added (variables + 1) (p + 1) (m.end - (p + 1)) room additions
+                    (spelled_at t p (variables + 1) d (run_spaced plain_at plain_reads t m.next e) (good_below variables (literals_at t p) g));
+              })
+          went (inr y) x = absurd (y (rw (ne_eqb k 0 y) at x))
+
+      good : (m.next ≡ 0 → ⊥) → (h.next ≡ 0 → ⊥) → byte_at t h.next ≡ 10 → Ran t p m → Ran t m.next h
+          → (b : Bool) → literals_good variables (literals_at t p) ≡ b
+          → Goes t (variables + 1) q (cond b
+          (cond (not (is_empty (literals_at t p)) && ltb (length added) (2 * a + 2)) (stop 22 a added)
+          (concluded (hints_of F t a added (falsified unset (literals_at t p)) m.next) (is_empty (literals_at t p)) a added p m.end (h.next + 1)))
+          (stop 18 a added))
+      good d e o r s true g =
+          push d e o r s g (is_empty (literals_at t p)) refl (ltb (length added) (2 * a + 2)) refl (hints_of F t a added (falsified unset (literals_at t p)) m.next)
+      good d e o r s false g = stops t (variables + 1) q 18 a added (λ y. omega arith)
+
+      add : (m.next ≡ 0 → ⊥) → (h.next ≡ 0 → ⊥) → byte_at t h.next ≡ 10 → Ran t p m → Ran t m.next h
+          → (b : Bool) → eqb id (length F + a + 1) ≡ b
+          → Goes t (variables + 1) q (cond b (cond (literals_good variables (literals_at t p))
+          (cond (not (is_empty (literals_at t p)) && ltb (length added) (2 * a + 2)) (stop 22 a added)
+          (concluded (hints_of F t a added (falsified unset (literals_at t p)) m.next) (is_empty (literals_at t p)) a added p m.end (h.next + 1)))
+          (stop 18 a added)) (stop 17 a added))
+      add d e o r s true g = good d e o r s (literals_good variables (literals_at t p)) refl
+      add d e o r s false g = stops t (variables + 1) q 17 a added (λ y. omega arith)
+
+      go : (m.next ≡ 0) ⊎ (m.next ≡ 0 → ⊥) → (h.next ≡ 0) ⊎ (h.next ≡ 0 → ⊥) → (byte_at t h.next ≡ 10) ⊎ (byte_at t h.next ≡ 10 → ⊥)
+          → ((m.next ≡ 0 → ⊥) → Ran t p m) → ((h.next ≡ 0 → ⊥) → Ran t m.next h) → Goes t (variables + 1) q (step_of F t variables a added (addition_at t id p))
+      go (inl z) b c k j = rw (addition_none t id p m.end m.next refl z) (stops t (variables + 1) q 16 a added (λ y. omega arith))
+      go (inr d) (inl z) c k j = rw (addition_hintless t id p m.end m.next refl d h.next refl z) (stops t (variables + 1) q 16 a added (λ y. omega arith))
+      go (inr d) (inr e) (inr o) k j = rw (addition_open t id p m.end m.next refl d h.next refl e o) (stops t (variables + 1) q 16 a added (λ y. omega arith))
+      go (inr d) (inr e) (inl o) k j =
+          rw (addition_good t id p m.end m.next refl d h.next refl e o) (add d e o (k d) (j e) (eqb id (length F + a + 1)) refl)
+
+  pub line_goes : Goes t (variables + 1) q (line_step F t variables a added q)
+  line_goes = go (eq? (plain_at t q).next 0) (eq? (byte_at t (plain_at t q).next) 32) (eq? (byte_at t ((plain_at t q).next + 1)) 100)
+    where
+      w : Word
+      w = plain_at t q
+
+      low : (w.next ≡ 0 → ⊥) → q < w.next
+      low d = (read_there plain_at plain_reads t q d).low
+
+      go : (w.next ≡ 0) ⊎ (w.next ≡ 0 → ⊥) → (byte_at t w.next ≡ 32) ⊎ (byte_at t w.next ≡ 32 → ⊥)
+          → (byte_at t (w.next + 1) ≡ 100) ⊎ (byte_at t (w.next + 1) ≡ 100 → ⊥) → Goes t (variables + 1) q (line_step F t variables a added q)
+      go (inl z) b c = subst (Goes t (variables + 1) q) (step_none F t variables a added q w refl z) (stops t (variables + 1) q 16 a added (λ y. omega arith))
+      go (inr d) (inr o) c = subst (Goes t (variables + 1) q) (step_open F t variables a added q w refl d o) (stops t (variables + 1) q 16 a added (λ y. omega arith))
+      go (inr d) (inl e) (inl y) =
+          subst (Goes t (variables + 1) q) (step_deletion F t variables a added q w refl d e y) (deletion_goes (w.next + 2) (omega (arith, low d)))
+      go (inr d) (inl e) (inr y) =
+          subst (Goes t (variables + 1) q) (step_addition F t variables a added q w refl d e y) (addition_goes w.value w.next (low d))
+
+-- ---- a line adds one pair at most
+Few : ℕ → Left → Type 0
+Few a l = l.a ≤ a + 1
+
+few_cond : (a : ℕ) (b : Bool) (x y : Left) → Few a x → Few a y → Few a (cond b x y)
+few_cond a true x y h k = h
+few_cond a false x y h k = k
+
+few_step : (F : Formula) (t : List ℕ) (variables a : ℕ) (added : List ℕ) (l : Line) → Few a (step_of F t variables a added l)
+unfolding Few step_of add_step delete_step concluded
+few_step F t variables a added no_line = omega arith
+few_step F t variables a added (deletion at next) = omega arith
+few_step F t variables a added (addition id at end hints next) =
+    let one : Few a (stop 17 a added) = omega arith in
+    few_cond a (eqb id (length F + a + 1)) _ _
+    (few_cond a (literals_good variables (literals_at t at)) _ _
+    (few_cond a (not (is_empty (literals_at t at)) && ltb (length added) (2 * a + 2)) _ _ one
+    (few_cond a (eqb (hints_of F t a added (falsified unset (literals_at t at)) hints) 0) _ _
+    (few_cond a (is_empty (literals_at t at)) _ _ one (let m : Few a (left 0 (a + 1) next (pushed added a at end)) = omega arith in m)) one))
+    one)
+    one
+
+pub step_few : (F : Formula) (t : List ℕ) (variables a : ℕ) (added : List ℕ) (p : ℕ) → (line_step F t variables a added p).a ≤ a + 1
+unfolding Few line_step
+step_few F t variables a added p = few_step F t variables a added (line_at t p)
+
+-- ---- the lines under way: all of them end as those from p on do
+pub record Going (F : Formula) (t : List ℕ) (variables : ℕ) (added₀ : List ℕ) (a : ℕ) (added : List ℕ) (p : ℕ) : Type 0 where
+  pub so_far : lines_of F t variables added₀ ≡ lines_from (length t - p) F t variables a added p
+  pub inside : p ≤ length t
+  pub few : a ≤ p
+  pub additions : AddedInText t a added (variables + 1)
+  pub long : length added ≡ length added₀
+
+pub going_start : (F : Formula) (t : List ℕ) (variables : ℕ) (added : List ℕ) → Going F t variables added 0 added 0
+unfolding lines_of
+going_start F t variables added =
+    record {
+      so_far = ap (λ (f : ℕ). lines_from f F t variables 0 added 0) (let z : length t ≡ length t - 0 = omega arith in z);
+      inside = omega arith;
+      few = omega arith;
+      additions = record { long = omega arith; placed = λ k h. absurd (omega arith) };
+      long = refl;
+    }
+
+-- any number of turns that reaches the text's end gives the same
+lines_same : (f g : ℕ) (F : Formula) (t : List ℕ) (variables a : ℕ) (added : List ℕ) (p : ℕ) → AddedInText t a added (variables + 1)
+    → length t ≤ p + f → length t ≤ p + g → lines_from f F t variables a added p ≡ lines_from g F t variables a added p
+unfolding lines_from
+lines_same zero zero F t variables a added p additions h k = refl
+lines_same zero (suc g) F t variables a added p additions h k = rw (le-ltb p (length t) (omega arith))
+lines_same (suc f) zero F t variables a added p additions h k = rw (le-ltb p (length t) (omega arith))
+lines_same (suc f) (suc g) F t variables a added p additions h k =
+    go (line_step F t variables a added p) (line_goes F t variables a added p additions) (λ b l q i x y. lines_same f g F t variables b l q i x y)
+  where
+    go : (l : Left) → (l.code ≡ 0 → Went t (variables + 1) p l)
+        → ((b : ℕ) (m : List ℕ) (q : ℕ) → AddedInText t b m (variables + 1) → length t ≤ q + f → length t ≤ q + g → lines_from f F t variables b m q ≡ lines_from g F t variables b m q)
+        → cond (ltb p (length t)) (on_left l (λ b m q. lines_from f F t variables b m q)) (stop 23 a added)
+        ≡ cond (ltb p (length t)) (on_left l (λ b m q. lines_from g F t variables b m q)) (stop 23 a added)
+    go l w rest = ap (λ (x : Left). cond (ltb p (length t)) x (stop 23 a added)) (on (eq? l.code 0))
+      where
+        on : (l.code ≡ 0) ⊎ (l.code ≡ 0 → ⊥) → on_left l (λ b m q. lines_from f F t variables b m q) ≡ on_left l (λ b m q. lines_from g F t variables b m q)
+        on (inl z) = let v = w z in rw (eq-eqb l.code 0 z) (rest l.a l.added l.next v.additions (omega (arith, v.low)) (omega (arith, v.low)))
+        on (inr d) = rw (ne_eqb l.code 0 d)
+
+module _ {F : Formula} {t : List ℕ} {variables : ℕ} {added₀ : List ℕ} {a : ℕ} {added : List ℕ} {p : ℕ} (s : Going F t variables added₀ a added p) where
+  turn : lines_of F t variables added₀ ≡ lines_from (suc (length t - p)) F t variables a added p
+  turn = s.so_far ∙ lines_same (length t - p) (suc (length t - p)) F t variables a added p s.additions (omega (arith, s.inside)) (omega (arith, s.inside))
+
+  pub lines_end : length t ≤ p → stop 23 a added ≡ lines_of F t variables added₀
+  unfolding lines_from
+  lines_end h = sym (turn ∙ rw (le-ltb p (length t) h))
+
+  module _ (h : p < length t) (l : Left) (is : l ≡ line_step F t variables a added p) where
+    pub lines_stop : (l.code ≡ 0 → ⊥) → stop l.code l.a l.added ≡ lines_of F t variables added₀
+    unfolding lines_from
+    lines_stop d = sym (turn ∙ rw (lt-ltb p (length t) h, ← is, ne_eqb l.code 0 d))
+
+    pub lines_went : l.code ≡ 0 → Went t (variables + 1) p l
+    lines_went z = rw is (line_goes F t variables a added p s.additions (ap (λ (x : Left). x.code) (sym is) ∙ z))
+
+    -- no more pairs than bytes
+    pub lines_few : l.a ≤ p + 1
+    lines_few = let h = step_few F t variables a added p in let e : l.a ≡ (line_step F t variables a added p).a = ap (λ (x : Left). x.a) is in omega (arith, s.few)
+
+    pub lines_more : l.code ≡ 0 → length l.added ≡ length added → Going F t variables added₀ l.a l.added l.next
+    unfolding lines_from
+    lines_more z n =
+        let w = lines_went z in
+        record {
+          so_far = (turn ∙ rw (lt-ltb p (length t) h, ← is, eq-eqb l.code 0 z))
+              ∙ lines_same (length t - p) (length t - l.next) F t variables l.a l.added l.next w.additions (omega (arith, w.low)) (omega (arith, w.high));
+          inside = w.high;
+          few = omega (arith, lines_few, w.low);
+          additions = w.additions;
+          long = n ∙ s.long;
+        }
+
+-- the lines never end in 0
+lines_from_coded : (f : ℕ) (F : Formula) (t : List ℕ) (variables a : ℕ) (added : List ℕ) (p : ℕ) → (lines_from f F t variables a added p).code ≡ 0 → ⊥
+unfolding lines_from
+lines_from_coded zero F t variables a added p e = omega arith
+lines_from_coded (suc f) F t variables a added p e =
+    go (ltb p (length t)) (line_step F t variables a added p) (λ b l q z. lines_from_coded f F t variables b l q z) e
+  where
+    Rest : Type 0
+    Rest = (b : ℕ) (m : List ℕ) (q : ℕ) → (lines_from f F t variables b m q).code ≡ 0 → ⊥
+
+    on : (l : Left) → Rest → (l.code ≡ 0) ⊎ (l.code ≡ 0 → ⊥) → (on_left l (λ b m q. lines_from f F t variables b m q)).code ≡ 0 → ⊥
+    on l rest (inl z) x = rest l.a l.added l.next (rw (eq-eqb l.code 0 z) at x)
+    on l rest (inr d) x = d (rw (ne_eqb l.code 0 d) at x)
+
+    go : (b : Bool) (l : Left) → Rest → (cond b (on_left l (λ b m q. lines_from f F t variables b m q)) (stop 23 a added)).code ≡ 0 → ⊥
+    go true l rest x = on l rest (eq? l.code 0) x
+    go false l rest x = omega arith
+
+pub lines_coded : (F : Formula) (t : List ℕ) (variables : ℕ) (added : List ℕ) → (lines_of F t variables added).code ≡ 0 → ⊥
+unfolding lines_of
+lines_coded F t variables added = lines_from_coded (length t) F t variables 0 added 0

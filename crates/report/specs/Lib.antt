@@ -1,0 +1,2 @@
+-- What the program writes for three files. Assumes nothing.
+pub mod Output

@@ -1,0 +1,3 @@
+-- Theorems about the definitions of specs/, and what proofs of this crate share. Assumes nothing.
+pub mod LineLaws
+pub mod NumbersLaws
