@@ -2,13 +2,17 @@
 // check left.
 #![tactic(auto)]
 
-ghost use Rattle.std.specs.Prelude.{◌≡◌, ◌<◌};
-ghost use Rattle.added.specs.Part.{part_of};
+ghost use Rattle.std.specs.Prelude.{◌≡◌, [], MatchOption};
+ghost use Rattle.added.specs.Part.{pair_part, part_of};
 
-fn wide(x: u32) -> usize
-    ensures { (result ≡ x) × (result < 4294967296) }
+// The part of the text that pair k names, where there is such a pair and the text has such a part.
+fn pair_part<'a>(text: &'a [u8], added: &[u32], k: u32) -> Option<&'a [u8]>
+    ensures { MatchOption result ([] ≡ pair_part text.now added.now k) (λ part. part.now ≡ pair_part text.now added.now k) }
 {
-    x as usize
+    let k = k as usize;
+    let at = *added.get(2 * k)? as usize;
+    let n = *added.get(2 * k + 1)? as usize;
+    text.get(at..at + n)
 }
 
 // The literals of an added clause, by its id: the part of the text that its pair names, of c original clauses and a added ones; the
@@ -16,23 +20,8 @@ fn wide(x: u32) -> usize
 pub fn part<'a>(text: &'a [u8], added: &[u32], c: u32, a: u32, id: u32) -> &'a [u8]
     ensures { result.now ≡ part_of text.now added.now c a id }
 {
-    if id <= c {
-        return &text[0..0];
+    if id <= c || a <= id - c - 1 {
+        return &[];
     }
-    if a <= id - c - 1 {
-        return &text[0..0];
-    }
-    let k = wide(id - c - 1);
-    if added.len() < 2 * k + 2 {
-        return &text[0..0];
-    }
-    let at = wide(added[2 * k]);
-    let n = wide(added[2 * k + 1]);
-    if text.len() < at {
-        return &text[0..0];
-    }
-    if text.len() - at < n {
-        return &text[0..0];
-    }
-    &text[at..at + n]
+    pair_part(text, added, id - c - 1).unwrap_or(&[])
 }

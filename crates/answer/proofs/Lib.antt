@@ -2,3 +2,4 @@
 pub mod ReadingLaws
 pub mod ReadingMeaning
 pub mod ValuesLaws
+pub mod ReadingNumbers

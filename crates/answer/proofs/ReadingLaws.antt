@@ -1,28 +1,29 @@
 -- Laws of reading an answer: what each branch of a line gives, and one line after another. Assumes nothing.
-use Rattle.std.specs.Prelude.{◌≡◌, Bool, true, false, List, length, replicate}
+use Rattle.std.specs.Prelude.{◌≡◌, Ok, Err, Bool, true, false, List, length, replicate}
 use Rattle.std.proofs.Math.Path.{refl, sym, ap}
 use Rattle.std.proofs.Common.{◌∙◌}
 use Prim.Native.Nat.{ℕ, zero, suc, ◌+◌, ◌-◌, ◌≤◌, ◌<◌}
 use native.Mathlib.Omega.{arith}
 use borrow.Author.Tests.{eq-eqb, ne_eqb, le-leb, lt-leb}
 use Rattle.numeral.specs.Number.{byte_at}
+use Rattle.refusal.specs.declared.Refusal.{Refusal}
+use Rattle.refusal.specs.Refusal.{number, number_of}
+use Rattle.refusal.specs.Refusal.Laws.{unless-number, unless-ok, number_some}
 use Rattle.request.specs.Numbers.{inputs_most, switches_most, refusal_of, Good}
 use Rattle.request.specs.declared.Request.{Request}
 use Rattle.request.proofs.NumbersLaws.{refusal_good}
 use Rattle.network.specs.declared.Network.{Network}
-use Rattle.formula.specs.Count.{network_count, values_most, sizes_of}
-use Rattle.formula.proofs.CountLaws.{sizes_refusal, sizes_taken}
+use Rattle.formula.specs.Count.{network_count, values_most, variable_count, counts_of, sizes_of}
 use Rattle.formula.specs.Formula.{terminals, P}
 use Rattle.formula.specs.Formula.Bounds.{pairs_most, chosen_most}
+use Rattle.formula.proofs.CountLaws.{sizes_refusal}
 use Rattle.formula.specs.declared.Sizes.{Sizes}
 use Rattle.answer.specs.Lines.{line_end, stands_at, solution_line, form_at}
-use Rattle.answer.specs.Values.{kept, named_from, complete, assigned, holding}
+use Rattle.answer.specs.Values.{Named, kept, named_from, complete, assigned, holding}
 use Rattle.answer.specs.Decode.{decoded}
-use Rattle.answer.specs.Reading.{line, gave, passed, valued, line_step, lines_from, refused_with, ended, reading_of}
+use Rattle.answer.specs.Reading.{Line, Lines, result_of, phase_number, LinesBy, line, gave, passed, valued, line_step, lines_from, refused_with, ended, reading_of}
 use Rattle.answer.specs.declared.Form.{Form}
-use Rattle.answer.specs.declared.Line.{Line}
-use Rattle.answer.specs.declared.Lines.{Lines}
-use Rattle.answer.specs.declared.Named.{Named}
+use Rattle.answer.specs.declared.Progress.{Progress}
 
 module _ (top keep : ℕ) (t : List ℕ) (p phase : ℕ) (values : List ℕ) where
   -- a c line without its newline
@@ -145,30 +146,71 @@ pub kept_most : (n r : ℕ) → n ≤ inputs_most → r ≤ switches_most → ke
 unfolding P
 kept_most n r hn hr = omega (arith, pairs_most (terminals r) (omega arith), chosen_most n r hn hr)
 
-module _ (q : Request) (t : List ℕ) (size : Sizes) (sized : size ≡ sizes_of q) where
-  same : size.refusal ≡ refusal_of q
-  same = ap (λ (x : Sizes). x.refusal) sized ∙ sizes_refusal q
+-- a refused reading as a result
+refused_result : (e : Refusal) {x : ℕ} → x ≡ number e → Err e ≡ result_of (refused_with x)
+refused_result e h = rw h (sym (unless-number e _))
 
+-- lines that are refused
+pub result_lines : (q : Request) (l : Lines) (e : Refusal) → l.refusal ≡ number e → Err e ≡ result_of (ended q l)
+result_lines q l e h =
+    refused_result e h ∙ ap result_of (ended_refused q l (λ z. number_some e (sym h ∙ z)))
+
+module _ (q : Request) (t : List ℕ) where
   -- a refused request
-  pub reading_refused : (size.refusal ≡ 0 → ⊥) → refused_with size.refusal ≡ reading_of q t
+  pub result_refused : (e : Refusal) → number e ≡ refusal_of q → Err e ≡ result_of (reading_of q t)
   unfolding reading_of
-  reading_refused d = rw (same, ne_eqb (refusal_of q) 0 (λ z. d (same ∙ z)))
+  result_refused e h = rw (ne_eqb (refusal_of q) 0 (λ z. number_some e (h ∙ z))) (refused_result e (sym h))
 
-  module _ (zero : size.refusal ≡ 0) where
-    taken : refusal_of q ≡ 0
-    taken = sym same ∙ zero
+  module _ (taken : refusal_of q ≡ 0) (keep : ℕ) (k : keep ≡ kept q.n q.r) where
+    -- a request that is read
+    pub reading_taken : (top : ℕ) → top ≡ variable_count q → ended q (lines_from top keep t (length t) 0 0 (replicate values_most 0)) ≡ reading_of q t
+    unfolding reading_of
+    reading_taken top e = rw (eq-eqb (refusal_of q) 0 taken, k, e)
 
-    pub reading_good : Good q
-    reading_good = refusal_good q taken
+-- what is kept of a good request
+pub good_most : (q : Request) (keep : ℕ) → Good q → keep ≡ kept q.n q.r → keep ≤ values_most
+good_most q keep g k = omega (arith, k, kept_most q.n q.r g.n_high g.r_high)
 
-    module _ (keep : ℕ) (k : keep ≡ kept q.n q.r) where
-      -- what is kept of it
-      pub reading_most : keep ≤ values_most
-      reading_most = omega (arith, k, kept_most q.n q.r reading_good.n_high reading_good.r_high)
+-- the sizes of a request that is taken
+pub sizes_top : (q : Request) (x : Sizes) → Ok x ≡ sizes_of q → (refusal_of q ≡ 0) × (x.variables ≡ variable_count q)
+unfolding sizes_of
+sizes_top q x e = let u = unless-ok (refusal_of q) (counts_of q) x (sym e) in (u.0, sym (ap (λ (y : Sizes). y.variables) u.1))
 
-      -- a request that is read
-      pub reading_taken : (l : Lines) → l ≡ lines_from size.variables keep t (length t) 0 0 (replicate values_most 0)
-          → ended q l ≡ reading_of q t
-      unfolding reading_of
-      reading_taken l e =
-          rw (eq-eqb (refusal_of q) 0 taken, e, k, ap (λ (x : Sizes). x.variables) (sized ∙ sizes_taken q taken))
+-- a refused request, and one that is taken, by what counting answers
+pub reading_refused : (q : Request) (t : List ℕ) (e : Refusal) → Err e ≡ sizes_of q → refused_with (number e) ≡ reading_of q t
+unfolding reading_of
+reading_refused q t e h =
+    let n : number e ≡ refusal_of q = ap (number_of {A = Sizes}) h ∙ sizes_refusal q in
+    rw (n, ne_eqb (refusal_of q) 0 (λ z. number_some e (n ∙ z)))
+
+pub reading_good : (q : Request) (x : Sizes) → Ok x ≡ sizes_of q → Good q
+reading_good q x e = refusal_good q (sizes_top q x e).0
+
+pub reading_most : (q : Request) (x : Sizes) → Ok x ≡ sizes_of q → (keep : ℕ) → keep ≡ kept q.n q.r → keep ≤ values_most
+reading_most q x e keep = good_most q keep (reading_good q x e)
+
+-- ---- the lines, one after another: what is left of them from a place on gives the whole
+module _ (top keep : ℕ) (t : List ℕ) where
+  abbrev pub Left : Lines → ℕ → Progress → Type 0
+  Left whole at s = (f : ℕ) × (length t ≤ f + at) × (lines_from top keep t f at (phase_number s.phase) s.values ≡ whole)
+
+  -- nothing is left
+  pub left_none : {whole : Lines} (at : ℕ) (s : Progress) → length t ≤ at → Left whole at s → LinesBy whole (Ok s)
+  left_none at s h (f, _, e) = sym e ∙ sym (lines_end top keep t f at (phase_number s.phase) s.values h)
+
+  module _ {whole : Lines} (at : ℕ) (s : Progress) (inside : at < length t) (left : Left whole at s) where
+    -- the line is refused
+    pub left_refused : (e : Refusal) → (line_step top keep t at (phase_number s.phase) s.values).refusal ≡ number e → LinesBy whole (Err e)
+    left_refused e h =
+        let l : Line = line_step top keep t at (phase_number s.phase) s.values in
+        ap (λ (x : Lines). x.refusal) (sym left.2 ∙ sym (lines_refused top keep t left.0 at (phase_number s.phase) s.values l (omega (arith, left.1)) inside refl (λ z. number_some e (sym h ∙ z)))) ∙ h
+
+    -- or taken, and the next is further on
+    pub left_more : (next : ℕ) (after : Progress) → at < next
+        → line_step top keep t at (phase_number s.phase) s.values ≡ line 0 (phase_number after.phase) after.values next → Left whole next after
+    left_more next after past h = (
+      left.0 - 1,
+      omega (arith, left.1),
+      sym (ap (λ (x : Line). lines_from top keep t (left.0 - 1) x.next x.phase x.values) h)
+          ∙ sym (lines_more top keep t left.0 at (phase_number s.phase) s.values _ (omega (arith, left.1)) inside refl (ap (λ (x : Line). x.refusal) h)) ∙ left.2,
+    )

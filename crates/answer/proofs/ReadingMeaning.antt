@@ -25,9 +25,7 @@ use Rattle.formula.proofs.NumberLaws.{clause_good, in_nets, in_choices}
 use Rattle.answer.specs.Values.{kept, complete, assigned, holding}
 use Rattle.answer.specs.Decode.{label_for, decoded}
 use Rattle.answer.specs.Decode.Meaning.{label_joined, literal_is, decoded_literal, decoded_label, decoded_formed}
-use Rattle.answer.specs.Reading.{lines_from, refused_with, ended, reading_of}
-use Rattle.answer.specs.declared.Decoded.{Decoded}
-use Rattle.answer.specs.declared.Lines.{Lines}
+use Rattle.answer.specs.Reading.{Decoded, Lines, lines_from, refused_with, ended, reading_of}
 
 -- what the lines of an answer give
 abbrev pub lines_in : Request → List ℕ → Lines

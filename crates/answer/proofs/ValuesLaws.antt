@@ -14,11 +14,9 @@ use Rattle.formula.specs.Clause.{run}
 use Rattle.formula.proofs.ClauseLaws.{run_length_lem, run_at}
 use Rattle.formula.specs.Number.{clause_of}
 use Rattle.request.specs.declared.Request.{Request}
-use Rattle.numeral.specs.declared.Word.{Word}
-use Rattle.numeral.specs.Number.{byte_at, literal_at}
+use Rattle.numeral.specs.Number.{Read, byte_at, literal_at}
 use Rattle.numeral.specs.Number.Laws.{byte_past}
-use Rattle.answer.specs.declared.Named.{Named}
-use Rattle.answer.specs.Values.{named, refused_by, kept_by, named_from, complete, assigned, holding}
+use Rattle.answer.specs.Values.{Named, named, refused_by, kept_by, named_from, complete, assigned, holding}
 
 -- ---- one number of a line
 module _ (top keep : ℕ) (values : List ℕ) (x : ℕ) where
@@ -48,7 +46,7 @@ module _ (keep : ℕ) (values : List ℕ) (x minus : ℕ) where
   kept_out h = sym (rw (lt-leb x keep h))
 
 -- ---- one turn over the numbers of a line
-module _ (f top keep : ℕ) (t : List ℕ) (p : ℕ) (values : List ℕ) (w : Word) (read : w ≡ literal_at t (p + 1)) where
+module _ (f top keep : ℕ) (t : List ℕ) (p : ℕ) (values : List ℕ) (w : Read) (read : w ≡ literal_at t (p + 1)) where
   abbrev rest : ℕ → Named
   rest g = named_from g top keep t p values
 

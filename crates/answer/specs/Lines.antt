@@ -1,5 +1,5 @@
 -- The lines of an answer: where one ends, the s line, and the form of a v line. Assumes nothing.
-use Rattle.std.specs.Prelude.{Bool, false, cond, List, [], ◌∷◌, ℕ, zero, suc, ◌+◌, eqb, length, take, drop}
+use Rattle.std.specs.Prelude.{Bool, false, cond, Option, Some, None, List, [], ◌∷◌, ℕ, zero, suc, ◌+◌, eqb, length, take, drop}
 use Rattle.prelude.specs.Lists.{equal_lists, first_of}
 use Rattle.numeral.specs.Number.{byte_at, literal_at}
 use Rattle.answer.specs.declared.Form.{Form}
@@ -23,6 +23,10 @@ formed next last = record { next = next; last = last }
 
 abbrev pub no_form : Form
 no_form = formed 0 false
+
+-- the same with nothing where it has not the form
+abbrev pub some_form : Form → Option Form
+some_form f = cond (eqb f.next 0) None (Some f)
 
 -- "lines \"v \" with numbers, at least one on each, the 0 included; 0 ends the numbers": a space before each number, a newline
 -- after the last, a 0 only last; from the place p before a number, f numbers at most

@@ -1,23 +1,36 @@
 -- Reading an answer, line by line from the top. Assumes nothing.
-use Rattle.std.specs.Prelude.{cond, List, ℕ, zero, suc, ◌+◌, eqb, leb, length, replicate}
+use Rattle.std.specs.Prelude.{◌≡◌, Result, Ok, Err, cond, List, ℕ, zero, suc, ◌+◌, eqb, leb, length, replicate}
+use Rattle.refusal.specs.declared.Refusal.{Refusal}
+use Rattle.refusal.specs.Refusal.{number, unless}
 use Rattle.request.specs.Numbers.{refusal_of}
 use Rattle.request.specs.declared.Request.{Request}
+use Rattle.network.specs.declared.Network.{Network}
 use Rattle.network.specs.Value.{zeros}
 use Rattle.formula.specs.Count.{network_count, values_most, variable_count}
 use Rattle.numeral.specs.Number.{byte_at}
 use Rattle.answer.specs.Lines.{line_end, stands_at, solution_line, form_at}
-use Rattle.answer.specs.Values.{kept, named_from, complete, assigned, holding}
+use Rattle.answer.specs.Values.{Named, kept, named_from, complete, assigned, holding}
 use Rattle.answer.specs.Decode.{decoded}
-use Rattle.answer.specs.declared.Decoded.{Decoded}
-use Rattle.answer.specs.declared.Named.{Named}
-use Rattle.answer.specs.declared.Line.{Line}
-use Rattle.answer.specs.declared.Lines.{Lines}
+use Rattle.answer.specs.declared.Phase.{Phase}
+use Rattle.answer.specs.declared.Phase.TheVariants.{Before, Naming, After}
+use Rattle.answer.specs.declared.Progress.{Progress}
 
 -- what a line gives: the refusal, 0 if none; the phase, 0 before the s line, 1 after it, 2 after the 0; the values; the next line
+pub record Line : Type 0 where
+  pub refusal : ℕ
+  pub phase : ℕ
+  pub values : List ℕ
+  pub next : ℕ
+
 abbrev pub line : ℕ → ℕ → List ℕ → ℕ → Line
 line refusal phase values next = record { refusal = refusal; phase = phase; values = values; next = next }
 
 -- what the lines give
+pub record Lines : Type 0 where
+  pub refusal : ℕ
+  pub phase : ℕ
+  pub values : List ℕ
+
 abbrev pub gave : ℕ → ℕ → List ℕ → Lines
 gave refusal phase values = record { refusal = refusal; phase = phase; values = values }
 
@@ -50,6 +63,11 @@ module _ (top keep : ℕ) (t : List ℕ) where
       (lines_from f (line_step p phase values).next (line_step p phase values).phase (line_step p phase values).values)
       (gave (line_step p phase values).refusal (line_step p phase values).phase (line_step p phase values).values))
 
+-- a reading: the refusal, 0 where the answer is taken, and the network that it describes
+pub record Decoded : Type 0 where
+  pub refusal : ℕ
+  pub network : Network
+
 -- a refused reading: "the network with r = 0 and every entry 0"
 abbrev pub refused_with : ℕ → Decoded
 refused_with x = record { refusal = x; network = zeros }
@@ -73,3 +91,24 @@ reading_of q t =
     cond (eqb (refusal_of q) 0)
     (ended q (lines_from (variable_count q) (kept q.n q.r) t (length t) 0 0 (replicate values_most 0)))
     (refused_with (refusal_of q))
+
+-- a reading as a result
+abbrev pub result_of : Decoded → Result Network Refusal
+result_of d = unless d.refusal d.network
+
+-- the number of a phase
+abbrev pub phase_number : Phase → ℕ
+phase_number Before = 0
+phase_number Naming = 1
+phase_number After = 2
+
+-- what a line gives as a result, the place of the next line, and how far the lines have come after it, which does not matter where it
+-- is refused
+abbrev pub LineBy : Line → Result ℕ Refusal → Progress → Type 0
+LineBy l (Ok next) s = l ≡ line 0 (phase_number s.phase) s.values next
+LineBy l (Err e) s = l.refusal ≡ number e
+
+-- what the lines give as a result
+abbrev pub LinesBy : Lines → Result Progress Refusal → Type 0
+LinesBy l (Ok s) = l ≡ gave 0 (phase_number s.phase) s.values
+LinesBy l (Err e) = l.refusal ≡ number e

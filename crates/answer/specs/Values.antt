@@ -1,18 +1,23 @@
 -- The values that v lines name, kept for the X and L variables alone: 0 unnamed, 1 true, 2 false. Assumes nothing.
-use Rattle.std.specs.Prelude.{Bool, true, false, not, ◌&&◌, ◌||◌, cond, List, ℕ, zero, suc, ◌+◌, ◌-◌, eqb, leb, ltb, get_or, set}
+use Rattle.std.specs.Prelude.{◌≡◌, Result, Ok, Err, Bool, true, false, not, ◌&&◌, ◌||◌, cond, List, ℕ, zero, suc, ◌+◌, ◌-◌, eqb, leb, ltb, get_or, set}
 use Rattle.prelude.specs.Lists.{all_from}
 use Rattle.cnf.specs.Cnf.{Assignment, clause_holds}
+use Rattle.refusal.specs.declared.Refusal.{Refusal}
+use Rattle.refusal.specs.declared.Refusal.TheVariants.{AnswerVariable}
 use Rattle.request.specs.declared.Request.{Request}
 use Rattle.formula.specs.Formula.{network_variables}
 use Rattle.formula.specs.Number.{clause_of}
 use Rattle.numeral.specs.Number.{byte_at, literal_at}
-use Rattle.answer.specs.declared.Named.{Named}
 
 -- the X and L variables
 abbrev pub kept : ℕ → ℕ → ℕ
 kept n r = network_variables n r
 
 -- values after a line, and whether it is refused (10)
+pub record Named : Type 0 where
+  pub refused : Bool
+  pub values : List ℕ
+
 abbrev pub named : Bool → List ℕ → Named
 named refused values = record { refused = refused; values = values }
 
@@ -49,3 +54,8 @@ assigned values x = eqb (get_or values (x - 1) 0) 1
 -- "12 if clauses of groups 1 and 2 fail": whether the first count clauses of a request hold
 unfoldable pub holding : Request → ℕ → List ℕ → Bool
 holding q count values = all_from 0 count (λ k. clause_holds (assigned values) (clause_of q k))
+
+-- the values named by a line as a result and what the array holds after it; where the line is refused the array does not matter
+abbrev pub NamedBy : Named → Result Unit Refusal → List ℕ → Type 0
+NamedBy n (Ok _) values = n ≡ named false values
+NamedBy n (Err e) values = (n.refused ≡ true) × (e ≡ AnswerVariable)

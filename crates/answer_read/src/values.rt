@@ -2,69 +2,57 @@
 ghost use Rattle.std.specs.Prelude.{◌≡◌, ◌≤◌, ◌<◌, length};
 ghost use Rattle.cnf.specs.Cnf.{literal_holds, clause_holds};
 ghost use Rattle.prelude.specs.Lists.{Each};
-ghost use Rattle.request.specs.Numbers.{Good};
 ghost use Rattle.formula.specs.Clause.{run, literals_of};
 ghost use Rattle.formula.specs.Count.{network_count, values_most, variables_most};
-ghost use Rattle.answer.specs.Values.{refused_by, named_from, complete, assigned, holding};
+ghost use Rattle.answer.specs.Values.{NamedBy, refused_by, named_from, complete, assigned, holding};
 
-use answer::{Named, Values};
+use answer::Values;
 use cnf::Literal;
 use formula::Clause;
 use formula_clauses::groups;
-use request::Request;
+use refusal::Refusal;
+use request::numbers::GoodRequest;
 
-// Whether variable x is refused where it is named.
-fn is_refused(top: usize, keep: usize, values: &[u8], x: usize) -> bool
-    requires { (0 < x) × (keep ≤ length values.now) }
-    ensures { result ≡ refused_by top keep values.now x }
-{
-    if top < x {
-        return true;
-    }
-    if keep < x {
-        return false;
-    }
-    values[x - 1] != 0
+// What an answer may name: V, and the number of X and L variables, whose values are kept.
+#[derive(Clone, Copy)]
+pub(crate) struct Named {
+    pub top: usize,
+    pub keep: usize,
+    ghost few: { keep ≤ values_most },
 }
 
-// The numbers of a line that has the form, from the place before the first.
-pub(crate) fn name(text: &[u8], at: usize, top: usize, keep: usize, before: Values) -> Named
-    requires { (keep ≤ values_most) × (at ≤ length text.now) }
-    ensures { result ≡ named_from (length text.now) top keep text.now at before }
-{
-    let mut values = before;
-    let mut p = at;
-    let mut left = text.len();
-    while 0 < left {
-        let w = numeral::literal(text, p + 1);
-        if w.value == 0 {
-            return Named {
-                refused: false,
-                values: values,
-            };
-        }
-        if is_refused(top, keep, &values, w.value) {
-            return Named {
-                refused: true,
-                values: values,
-            };
-        }
-        if w.value <= keep {
-            values[w.value - 1] = 1 + w.minus;
-        }
-        let next = w.next;
-        if numeral::byte(text, next) == b'\n' {
-            return Named {
-                refused: false,
-                values: values,
-            };
-        }
-        p = next;
-        left -= 1;
+impl Named {
+    // Whether variable x is refused where it is named.
+    #[tactic(auto, unfolding(answer::specs::Values::refused_by))]
+    fn refuses(self, values: &[u8], x: usize) -> bool
+        requires { (0 < x) × (self.keep ≤ length values.now) }
+        ensures { result ≡ refused_by self.top self.keep values.now x }
+    {
+        self.top < x || x <= self.keep && values[x - 1] != 0
     }
-    Named {
-        refused: false,
-        values: values,
+
+    // Takes the numbers of a line that has the form, from the place before the first; each is read from where the last ends.
+    pub(crate) fn take(self, text: &[u8], at: usize, values: &mut Values) -> Result<(), Refusal>
+        requires { at ≤ length text.now }
+        ensures { NamedBy (named_from (length text.now) self.top self.keep text.now at values.old) result values.new }
+    {
+        let mut p = at;
+        while let Some(w) = numeral::literal(text, p + 1) {
+            if w.value == 0 {
+                return Ok(());
+            }
+            if self.refuses(values, w.value) {
+                return Err(Refusal::AnswerVariable);
+            }
+            if w.value <= self.keep {
+                values[w.value - 1] = 1 + u8::from(w.minus);
+            }
+            if numeral::byte(text, w.next) == b'\n' {
+                return Ok(());
+            }
+            p = w.next;
+        }
+        Ok(())
     }
 }
 
@@ -73,25 +61,14 @@ pub(crate) fn all_named(keep: usize, values: &[u8]) -> bool
     requires { keep ≤ length values.now }
     ensures { result ≡ complete keep values.now }
 {
-    let mut i: usize = 0;
-    while i < keep {
-        if values[i] == 0 {
-            return false;
-        }
-        i += 1;
-    }
-    true
+    values[..keep].iter().all(|value| *value != 0)
 }
 
 // Whether a literal holds under the values.
 fn literal_holds(values: &[u8], l: Literal) -> bool
     ensures { result ≡ literal_holds (assigned values.now) l }
 {
-    let x = answer::is_true(values, l.variable);
-    if l.negative {
-        return !x;
-    }
-    x
+    answer::is_true(values, l.variable) != l.negative
 }
 
 // Whether one of count variables from first on is named true.
@@ -99,14 +76,7 @@ fn run_holds(values: &[u8], first: u32, count: u32) -> bool
     requires { Each (λ l. l.variable ≤ variables_most) (run first count) }
     ensures { result ≡ clause_holds (assigned values.now) (run first count) }
 {
-    let mut i: u32 = 0;
-    while i < count {
-        if answer::is_true(values, first + i) {
-            return true;
-        }
-        i += 1;
-    }
-    false
+    (first..first + count).any(|x| answer::is_true(values, x))
 }
 
 // Whether a clause holds under the values.
@@ -117,36 +87,17 @@ fn clause_holds(values: &[u8], c: Clause) -> bool
     match c {
         Clause::Run(first, count) => run_holds(values, first, count),
         Clause::One(x) => literal_holds(values, x),
-        Clause::Two(x, y) => {
-            if literal_holds(values, x) {
-                return true;
-            }
-            literal_holds(values, y)
-        }
-        Clause::Three(x, y, z) => {
-            if literal_holds(values, x) {
-                return true;
-            }
-            if literal_holds(values, y) {
-                return true;
-            }
-            literal_holds(values, z)
-        }
+        Clause::Two(x, y) => literal_holds(values, x) || literal_holds(values, y),
+        Clause::Three(x, y, z) => literal_holds(values, x)
+            || literal_holds(values, y)
+            || literal_holds(values, z),
     }
 }
 
 // Whether the clauses of groups 1 and 2 hold under the values.
-pub(crate) fn clauses_hold(q: Request, values: &[u8]) -> bool
-    requires { Good q }
-    ensures { result ≡ holding q (network_count q.n q.r) values.now }
+pub(crate) fn clauses_hold(good: GoodRequest, values: &[u8]) -> bool
+    ensures { result ≡ holding good.request (network_count good.request.n good.request.r) values.now }
 {
-    let count = groups::network_count(q.n, q.r);
-    let mut k: u32 = 0;
-    while k < count {
-        if !clause_holds(values, groups::network_clause(q, k)) {
-            return false;
-        }
-        k += 1;
-    }
-    true
+    let q = good.request;
+    (0..groups::network_count(q.n, q.r)).all(|k| clause_holds(values, groups::network_clause(q, k)))
 }

@@ -25,7 +25,25 @@ use answer::Values;
 use formula_clauses::variables;
 use network::{Labels, TERMINALS};
 
+// Definition 2: a graph of count nodes, with the values of X that give its internal edges.
+#[derive(Clone, Copy)]
+struct Graph {
+    count: u8,
+    values: Values,
+    ghost few: { count ≤ terminals_most },
+}
+
+impl Graph {
+    // The second kind of edge: whether the internal edge between two nodes is there.
+    fn internal_edge(&self, i: u8, j: u8) -> bool
+        ensures { result ≡ assigned self.now.values (X self.now.count i j) }
+    {
+        answer::is_true(&self.values, variables::joined_among(self.count, i, j))
+    }
+}
+
 // A search: the nodes that are visited, by it or by one before; their labels; the queue, and how many nodes have entered it.
+// The queue is an array with a length: there is no heap, and no node enters twice.
 #[derive(Clone, Copy)]
 struct Search {
     visited: [bool; TERMINALS],
@@ -34,59 +52,50 @@ struct Search {
     tail: u8,
 }
 
-// Definition 2, the second kind of edge: whether the internal edge between two of count nodes is there.
-fn internal_edge(count: u8, values: &[u8], i: u8, j: u8) -> bool
-    ensures { result ≡ assigned values.now (X count i j) }
-{
-    answer::is_true(values, variables::joined_among(count, i, j))
-}
+impl Search {
+    // Visits a node of the cluster that is searched from start: it is marked, gets its label, and enters the queue.
+    #[tactic(auto, unfolding(crate::specs::Search::entered))]
+    fn visit(&mut self, start: u8, node: u8)
+        requires { (node < terminals_most) × (self.old.tail < terminals_most) }
+        ensures { self.new ≡ entered start node self.old }
+    {
+        self.visited[node as usize] = true;
+        self.labels[node as usize] = start;
+        self.queue[self.tail as usize] = node;
+        self.tail += 1;
+    }
 
-// Visits a node of the cluster that is searched from start: it is marked, gets its label, and enters the queue.
-fn visit(start: u8, node: u8, before: Search) -> Search
-    requires { (node < terminals_most) × (before.tail < terminals_most) }
-    ensures { result ≡ entered start node before }
-{
-    let mut s = before;
-    s.visited[node as usize] = true;
-    s.labels[node as usize] = start;
-    s.queue[s.tail as usize] = node;
-    s.tail += 1;
-    s
-}
-
-// Visits the neighbours of a node, those to which it has an internal edge, that are not visited yet.
-fn visit_neighbours(count: u8, values: &[u8], start: u8, node: u8, before: Search) -> Search
-    requires { (count ≤ terminals_most) × (node < count) × (chain_label count (assigned values.now) node ≡ start) × Searching count (assigned values.now) start before }
-    ensures { Further count (assigned values.now) start node before result count }
-{
-    let mut s = before;
-    let mut neighbour: u8 = 0;
-    while neighbour < count {
-        if !s.visited[neighbour as usize] {
-            if internal_edge(count, values, node, neighbour) {
-                s = visit(start, neighbour, s);
+    // Visits the neighbours of a node, those to which it has an internal edge, that are not visited yet.
+    fn visit_neighbours(&mut self, graph: &Graph, start: u8, node: u8)
+        requires inside { node < graph.now.count }
+        requires label { chain_label graph.now.count (assigned graph.now.values) node ≡ start }
+        requires searching { Searching graph.now.count (assigned graph.now.values) start self.old }
+        ensures { Further graph.now.count (assigned graph.now.values) start node self.old self.new graph.now.count }
+    {
+        for neighbour in 0..graph.count {
+            if !self.visited[neighbour as usize] && graph.internal_edge(node, neighbour) {
+                self.visit(start, neighbour);
             }
         }
-        neighbour += 1;
     }
-    s
-}
 
-// Definition 3: finds the cluster of a node that is not visited yet, breadth first. The nodes leave the queue in the order in which they
-// entered it, and the neighbours of each are visited. No node enters twice, so that at most count do, and count - head falls.
-fn find_cluster(count: u8, values: &[u8], start: u8, before: Search) -> Search
-    requires { (count ≤ terminals_most) × (start < count) × (visited_at before.visited start ≡ false) × Labelled count (assigned values.now) start before.visited before.labels }
-    ensures { Labelled count (assigned values.now) (start + 1) result.visited result.labels }
-{
-    let mut s = before;
-    s.tail = 0;
-    s = visit(start, start, s);
-    let mut head: u8 = 0;
-    while head < s.tail {
-        s = visit_neighbours(count, values, start, s.queue[head as usize], s);
-        head += 1;
+    // Definition 3: finds the cluster of a node that is not visited yet, breadth first. The nodes leave the queue in the order in which they
+    // entered it, and the neighbours of each are visited. No node enters twice, so that at most count do, and count - head falls.
+    fn find_cluster(&mut self, graph: &Graph, start: u8)
+        requires inside { start < graph.now.count }
+        requires new { visited_at self.old.visited start ≡ false }
+        requires labelled { Labelled graph.now.count (assigned graph.now.values) start self.old.visited self.old.labels }
+        ensures { Labelled graph.now.count (assigned graph.now.values) (start + 1) self.new.visited self.new.labels }
+    {
+        self.tail = 0;
+        self.visit(start, start);
+        let mut head: u8 = 0;
+        // A while: what is left of the queue grows as it is worked off.
+        while head < self.tail {
+            self.visit_neighbours(graph, start, self.queue[head as usize]);
+            head += 1;
+        }
     }
-    s
 }
 
 // The paragraph below Definition 3: finds all clusters of count nodes, each from the lowest node that has no label yet, and gives the
@@ -94,21 +103,20 @@ fn find_cluster(count: u8, values: &[u8], start: u8, before: Search) -> Search
 pub fn find_labels(count: u8, values: Values) -> Labels
     ensures { result ≡ chain_labels count (assigned values) }
 {
-    let mut s = Search {
+    let mut search = Search {
         visited: [false; TERMINALS],
-        labels: [0u8; TERMINALS],
-        queue: [0u8; TERMINALS],
+        labels: [0; TERMINALS],
+        queue: [0; TERMINALS],
         tail: 0,
     };
     if TERMINALS < count as usize {
-        return s.labels;
+        return search.labels;
     }
-    let mut start: u8 = 0;
-    while start < count {
-        if !s.visited[start as usize] {
-            s = find_cluster(count, &values, start, s);
+    let graph = Graph { count, values };
+    for start in 0..count {
+        if !search.visited[start as usize] {
+            search.find_cluster(&graph, start);
         }
-        start += 1;
     }
-    s.labels
+    search.labels
 }

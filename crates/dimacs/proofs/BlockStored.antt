@@ -1,6 +1,6 @@
 -- The blocks of a request: each has room in the arrays in which its clauses are stored, and their lines one after the other are the
 -- file's. Assumes nothing.
-use Rattle.std.specs.Prelude.{◌≡◌, Bool, ◌&&◌, List, [], ◌++◌, ℕ, suc, ◌+◌, ◌*◌, ◌^◌, ◌≤◌, T, leb, ℤ, length}
+use Rattle.std.specs.Prelude.{◌≡◌, Ok, Err, Bool, ◌&&◌, List, [], ◌++◌, ℕ, suc, ◌+◌, ◌*◌, ◌^◌, ◌≤◌, T, leb, ℤ, length}
 use Rattle.std.proofs.Common.{sym, ◌∙◌, add-one, arith, leb→le, length-append}
 use Rattle.std.proofs.Math.Path.{ap}
 use Rattle.prelude.specs.Blocks.{flatten, pairs_from}
@@ -9,6 +9,7 @@ use Rattle.prelude.specs.Lists.{Each}
 use Rattle.prelude.specs.Tests.{and_l, and_r}
 use Rattle.prelude.specs.Written.{written}
 use Rattle.cnf.specs.Cnf.{Formula}
+use Rattle.refusal.specs.declared.Refusal.{Refusal}
 use Rattle.request.specs.Numbers.{inputs_most, switches_most, series_most, Good, refusal_of}
 use Rattle.request.proofs.NumbersLaws.{good_refusal}
 use Rattle.request.specs.declared.Request.{Request}
@@ -18,11 +19,11 @@ use Rattle.formula.specs.Count.{on_row_count, on_row_literals, variable_count}
 use Rattle.formula.specs.Pairs.{pairs_before, triples_before}
 use Rattle.formula_clauses.specs.declared.Block.{Block}
 use Rattle.formula_clauses.specs.declared.Block.TheVariants.{Network, On, Off, Free}
-use Rattle.formula_clauses.specs.declared.store.StoredBlock.{StoredBlock}
+use Rattle.formula_clauses.specs.declared.store.BlockSizes.{BlockSizes}
 use Rattle.formula_clauses.specs.Block.{block_count, block_literals, block_of, clauses_of, blocks_below, block_formula}
 use Rattle.formula_clauses.specs.Block.Laws.{block_length, block_literals_lem, blocks_all, block_each, among}
-use Rattle.formula_clauses.specs.Store.{signs, block_sizes, block_literals_in, block_pairs_in}
-use Rattle.formula_clauses.specs.Store.Laws.{room_none, block_there, block_taken, block_stored}
+use Rattle.formula_clauses.specs.Store.{signs, block_refusal, block_sizes, block_literals_in, block_pairs_in}
+use Rattle.formula_clauses.specs.Store.Laws.{room_none, block_there, block_taken, block_ok, block_stored}
 use Rattle.dimacs.specs.File.{body_text}
 use Rattle.dimacs.proofs.FileLaws.{body_append, body_none}
 use Rattle.dimacs.specs.Block.{block_text, literals_room, clauses_room, Within, Loaded}
@@ -76,26 +77,35 @@ module _ (q : Request) (good : Good q) (b : ℕ) (there : b ≤ 2 ^ q.n) where
   block_in : Each (ClauseIn (variable_count q)) (clauses_of q b)
   block_in = block_each q (ClauseIn (variable_count q)) b there (range q)
 
-  -- so storing it leaves it
-  pub loaded : (literals : List ℤ) (pairs : List ℕ) {x : StoredBlock} {l : List ℤ} {p : List ℕ}
-      → literals_room ≡ length literals → 2 * clauses_room ≡ length pairs → x ≡ block_sizes q b (length literals) (length pairs)
-      → l ≡ block_literals_in q b (length pairs) literals → p ≡ block_pairs_in q b (length literals) pairs → Loaded (clauses_of q b) literals pairs x l p
-  loaded literals pairs {x} {l} {p} e f x-is l-is p-is =
-      let B = block_there q b good there in
-      let s = block_small in
-      let h = ap length B in
-      let k = ap (λ (F : Formula). length (flatten F)) B in
-      let z = room_none (refusal_of q) (length (flatten (block_formula q b))) (length (block_formula q b)) (length literals) (length pairs)
-      (good_refusal q good) (omega arith) (omega arith) in
-      let w = x-is ∙ block_taken q b (length literals) (length pairs) z in
-      let t = block_stored q b literals pairs z in
-      record {
-        clauses_are = ap (λ (y : StoredBlock). y.clauses) w ∙ h;
-        literals_hold = l-is ∙ sym t.0 ∙ ap (λ (F : Formula). written literals 0 (signs (flatten F))) B;
-        pairs_hold = p-is ∙ sym t.1 ∙ ap (λ (F : Formula). written pairs 0 (pairs_from 0 F)) B;
-      }
+  -- so it is stored
+  module _ (literals : List ℤ) (pairs : List ℕ) (e : literals_room ≡ length literals) (f : 2 * clauses_room ≡ length pairs) where
+    block_room : block_refusal q b (length literals) (length pairs) ≡ 0
+    block_room =
+        let B = block_there q b good there in
+        let s = block_small in
+        let h = ap length B in
+        let k = ap (λ (F : Formula). length (flatten F)) B in
+        room_none (refusal_of q) (length (flatten (block_formula q b))) (length (block_formula q b)) (length literals) (length pairs)
+        (good_refusal q good) (omega arith) (omega arith)
 
-  module _ {old l : List ℤ} {before p : List ℕ} {x : StoredBlock} (stored : Loaded (clauses_of q b) old before x l p) where
+    -- not refused
+    pub never_refused : (x : Refusal) → Err x ≡ block_sizes q b (length literals) (length pairs) → ⊥
+    never_refused x h = let z = h ∙ block_taken q b (length literals) (length pairs) block_room in cc
+
+    -- and that leaves it
+    pub loaded : {x : BlockSizes} {l : List ℤ} {p : List ℕ} → Ok x ≡ block_sizes q b (length literals) (length pairs)
+        → l ≡ block_literals_in q b (length pairs) literals → p ≡ block_pairs_in q b (length literals) pairs → Loaded (clauses_of q b) literals pairs x l p
+    loaded {x} x-is l-is p-is =
+        let B = block_there q b good there in
+        let w = (block_ok q b (length literals) (length pairs) x x-is).1 in
+        let t = block_stored q b literals pairs block_room in
+        record {
+          clauses_are = ap (λ (y : BlockSizes). y.clauses) w ∙ ap length B;
+          literals_hold = l-is ∙ sym t.0 ∙ ap (λ (F : Formula). written literals 0 (signs (flatten F))) B;
+          pairs_hold = p-is ∙ sym t.1 ∙ ap (λ (F : Formula). written pairs 0 (pairs_from 0 F)) B;
+        }
+
+  module _ {old l : List ℤ} {before p : List ℕ} {x : BlockSizes} (stored : Loaded (clauses_of q b) old before x l p) where
     -- then its clauses lie within the literals
     pub loaded_within : Within x.clauses l p
     loaded_within = rw (stored.clauses_are, stored.literals_hold, stored.pairs_hold) (block_within (clauses_of q b) old before)

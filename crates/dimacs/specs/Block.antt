@@ -4,7 +4,7 @@ use Rattle.std.specs.Prelude.{◌≡◌, List, [], ◌∷◌, ◌++◌, ℕ, ◌
 use Rattle.prelude.specs.Blocks.{each, flatten, pairs_from}
 use Rattle.prelude.specs.Written.{written}
 use Rattle.cnf.specs.Cnf.{Formula}
-use Rattle.formula_clauses.specs.declared.store.StoredBlock.{StoredBlock}
+use Rattle.formula_clauses.specs.declared.store.BlockSizes.{BlockSizes}
 use Rattle.formula_clauses.specs.Store.{signs}
 use Rattle.text.specs.Text.{numbers_text}
 
@@ -33,7 +33,7 @@ abbrev pub clauses_room : ℕ
 clauses_room = 2048
 
 -- what storing clauses in two lists leaves: how many they are, and the lists that begin with them
-pub record Loaded (F : Formula) (old : List ℤ) (before : List ℕ) (x : StoredBlock) (literals : List ℤ) (pairs : List ℕ)
+pub record Loaded (F : Formula) (old : List ℤ) (before : List ℕ) (x : BlockSizes) (literals : List ℤ) (pairs : List ℕ)
     : Type 0 where
   pub clauses_are : x.clauses ≡ length F
   pub literals_hold : literals ≡ written old 0 (signs (flatten F))

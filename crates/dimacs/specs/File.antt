@@ -1,7 +1,9 @@
 -- The clause file as a list of bytes, and what its size and writing it answer. Assumes nothing.
-use Rattle.std.specs.Prelude.{◌≡◌, cond, List, [], ◌∷◌, ◌++◌, ℕ, eqb, ltb, length}
+use Rattle.std.specs.Prelude.{◌≡◌, cond, Result, Ok, Err, List, [], ◌∷◌, ◌++◌, ℕ, eqb, ltb, length}
 use Rattle.prelude.specs.Written.{written}
 use Rattle.cnf.specs.Cnf.{Formula}
+use Rattle.refusal.specs.declared.Refusal.{Refusal}
+use Rattle.refusal.specs.Refusal.{number, unless}
 use Rattle.request.specs.Numbers.{Good, refusal_of}
 use Rattle.request.specs.declared.Request.{Request}
 use Rattle.formula.specs.Formula.{formula_of}
@@ -9,18 +11,20 @@ use Rattle.formula.specs.Count.{variable_count, clause_count}
 use Rattle.formula.specs.declared.Sizes.{Sizes}
 use Rattle.text.specs.Decimal.{decimal}
 use Rattle.text.specs.Text.{line_text}
-use Rattle.dimacs.specs.declared.Answer.{Answer}
-use Rattle.dimacs.specs.declared.Answer.TheVariants.{Bytes, Refused}
+
+-- the length of the file in bytes, or the refusal
+abbrev pub Answer : Type 0
+Answer = Result ℕ Refusal
 
 -- document 01's number of an answer, 0 where it is a length
 abbrev pub number_of : Answer → ℕ
-number_of (Bytes k) = 0
-number_of (Refused x) = x
+number_of (Ok k) = 0
+number_of (Err x) = number x
 
 -- and its values, the length where it is one
 abbrev pub values_of : Answer → List ℕ
-values_of (Bytes k) = k ∷ []
-values_of (Refused x) = []
+values_of (Ok k) = k ∷ []
+values_of (Err x) = []
 
 -- a request that is not refused, and its sizes
 pub record Counted (q : Request) (x : Sizes) : Type 0 where
@@ -43,7 +47,7 @@ file_text q = head_text (variable_count q) (length (formula_of q)) ++ body_text 
 
 -- an answer by its number and the length
 abbrev pub answer_by : ℕ → ℕ → Answer
-answer_by k size = cond (eqb k 0) (Bytes size) (Refused k)
+answer_by k size = unless k size
 
 -- "Size of file: only 2 to 5", and since document 02 24: its number is that of the test of numbers. "The size of file becomes exactly the
 -- length that writing returns" (document 02, U2)

@@ -6,13 +6,6 @@ mod lines;
 pub mod size;
 pub mod write;
 
-// The length of the file in bytes, or the number of the refusal.
-#[derive(Clone, Copy)]
-pub enum Answer {
-    Bytes(usize),
-    Refused(u8),
-}
-
 // Room for the literals of one block of a request's clauses.
 const BLOCK_LITERALS: usize = 8192;
 

@@ -1,119 +1,115 @@
 // Decimal numbers, signed numbers and lines of them as text, written into a lent buffer.
 //
-// A writer promises `Wrote`: the text stands from the place on, the place after it is given back, and every other byte of the buffer
-// is as it was. Numbers below 10000, as a request's variables, are written by straight code.
-ghost use Rattle.std.specs.Prelude.{[], ◌∷◌, ◌+◌, ◌≤◌, ◌<◌, length, take, drop};
+// A writer promises `Wrote`: the text stands from the place on, the place is moved behind it, and every other byte of the buffer is
+// as it was. Numbers below 10000, as a request's variables, are written by straight code.
+ghost use Rattle.std.specs.Prelude.{[], ◌∷◌, ◌<◌, length};
 ghost use Rattle.prelude.specs.Signed.{is_negative};
-ghost use Rattle.prelude.specs.Written.Laws.{Wrote};
-ghost use Rattle.text.specs.Decimal.{decimal, two, four};
+ghost use Rattle.text.specs.Decimal.{decimal, padded};
 ghost use Rattle.text.specs.Text.{sign_text, number_text};
 ghost use Rattle.dimacs.specs.Block.{numbers_line};
+ghost use Rattle.dimacs.specs.Cursor.{Room, Puts};
 
-// Writes one digit.
-fn put_digit(buffer: &mut [u8], at: usize, x: u32) -> usize
-    requires { (x < 10) × (at < length buffer.old) }
-    ensures { Wrote buffer.old at ((48 + x) ∷ []) result buffer.new }
-{
-    buffer[at] = 48 + x as u8;
-    at + 1
+// A lent buffer, and the place where writing goes on.
+#[derive(Drop)]
+pub(crate) struct Cursor<'a> {
+    pub(crate) buffer: &'a mut [u8],
+    pub(crate) at: usize,
 }
 
-// Writes two digits.
-fn put_two(buffer: &mut [u8], at: usize, x: u32) -> usize
-    requires { (x < 100) × (at + 2 ≤ length buffer.old) }
-    ensures { Wrote buffer.old at (two x) result buffer.new }
-{
-    let to = put_digit(buffer, at, x / 10);
-    put_digit(buffer, to, x % 10)
-}
+impl Cursor<'_> {
+    // Writes one byte.
+    pub(crate) fn put(&mut self, byte: u8)
+        requires { Room self.old 1 }
+        ensures { Puts self.old (byte ∷ []) self.new }
+    {
+        self.buffer[self.at] = byte;
+        self.at += 1;
+    }
 
-// Writes four digits.
-fn put_four(buffer: &mut [u8], at: usize, x: u32) -> usize
-    requires { (x < 10000) × (at + 4 ≤ length buffer.old) }
-    ensures { Wrote buffer.old at (four x) result buffer.new }
-{
-    let to = put_two(buffer, at, x / 100);
-    put_two(buffer, to, x % 100)
-}
+    // Writes a word.
+    pub(crate) fn put_word(&mut self, word: &[u8])
+        requires { Room self.old (length word.now) }
+        ensures { Puts self.old word.now self.new }
+    {
+        let end = self.at + word.len();
+        self.buffer[self.at..end].copy_from_slice(word);
+        self.at = end;
+    }
 
-// Writes the digits of a number below 10000.
-fn put_small(buffer: &mut [u8], at: usize, x: u32) -> usize
-    requires { (x < 10000) × (at + length (decimal x) ≤ length buffer.old) }
-    ensures { Wrote buffer.old at (decimal x) result buffer.new }
-{
-    if x < 10 {
-        return put_digit(buffer, at, x);
+    // Writes the last N digits of x, with leading zeros.
+    fn put_digits<const N: usize>(&mut self, x: u32)
+        requires { Room self.old N }
+        ensures { Puts self.old (padded N x) self.new }
+    {
+        let mut digits = [0u8; N];
+        let mut rest = x;
+        for i in 0..N {
+            digits[N - 1 - i] = b'0' + (rest % 10) as u8;
+            rest /= 10;
+        }
+        self.put_word(&digits);
     }
-    if x < 100 {
-        return put_two(buffer, at, x);
-    }
-    if x < 1000 {
-        let to = put_digit(buffer, at, x / 100);
-        return put_two(buffer, to, x % 100);
-    }
-    put_four(buffer, at, x)
-}
 
-// Writes the digits of x.
-pub(crate) fn put_decimal(buffer: &mut [u8], at: usize, x: u32) -> usize
-    requires { at + length (decimal x) ≤ length buffer.old }
-    ensures { Wrote buffer.old at (decimal x) result buffer.new }
-{
-    if x < 10000 {
-        return put_small(buffer, at, x);
+    // Writes the digits of a number below 10000.
+    fn put_small(&mut self, x: u32)
+        requires { (x < 10000) × Room self.old (length (decimal x)) }
+        ensures { Puts self.old (decimal x) self.new }
+    {
+        match x {
+            0..=9 => self.put_digits::<1>(x),
+            10..=99 => self.put_digits::<2>(x),
+            100..=999 => self.put_digits::<3>(x),
+            _ => self.put_digits::<4>(x),
+        }
     }
-    let high = x / 10000;
-    if high < 10000 {
-        let to = put_small(buffer, at, high);
-        return put_four(buffer, to, x % 10000);
-    }
-    let first = put_small(buffer, at, high / 10000);
-    let second = put_four(buffer, first, high % 10000);
-    put_four(buffer, second, x % 10000)
-}
 
-// Writes the minus of a negative number.
-fn put_sign(buffer: &mut [u8], at: usize, x: i32) -> usize
-    requires { at + length (sign_text (is_negative x)) ≤ length buffer.old }
-    ensures { Wrote buffer.old at (sign_text (is_negative x)) result buffer.new }
-{
-    if x < 0 {
-        buffer[at] = b'-';
-        return at + 1;
+    // Writes the digits of x.
+    pub(crate) fn put_decimal(&mut self, x: u32)
+        requires { Room self.old (length (decimal x)) }
+        ensures { Puts self.old (decimal x) self.new }
+    {
+        if x < 10000 {
+            self.put_small(x);
+            return;
+        }
+        let high = x / 10000;
+        if high < 10000 {
+            self.put_small(high);
+        } else {
+            self.put_small(high / 10000);
+            self.put_digits::<4>(high % 10000);
+        }
+        self.put_digits::<4>(x % 10000);
     }
-    at
-}
 
-// Writes a signed number and the space after it.
-fn put_literal(buffer: &mut [u8], at: usize, x: i32) -> usize
-    requires { at + length (number_text x) ≤ length buffer.old }
-    ensures { Wrote buffer.old at (number_text x) result buffer.new }
-{
-    let to = put_sign(buffer, at, x);
-    let end = put_decimal(buffer, to, text::absolute(x));
-    buffer[end] = b' ';
-    end + 1
-}
-
-// Writes the line of count signed numbers from entry from on.
-pub(crate) fn put_line(
-    buffer: &mut [u8],
-    at: usize,
-    literals: &[i32],
-    from: usize,
-    count: usize,
-) -> usize
-    requires inside { from + count ≤ length literals.now }
-    requires room { at + length (numbers_line (take count (drop from literals.now))) ≤ length buffer.old }
-    ensures { Wrote buffer.old at (numbers_line (take count (drop from literals.now))) result buffer.new }
-{
-    let mut to = at;
-    let mut i: usize = 0;
-    while i < count {
-        to = put_literal(buffer, to, literals[from + i]);
-        i += 1;
+    // Writes the minus of a negative number.
+    fn put_sign(&mut self, x: i32)
+        requires { Room self.old (length (sign_text (is_negative x))) }
+        ensures { Puts self.old (sign_text (is_negative x)) self.new }
+    {
+        if x < 0 {
+            self.put(b'-');
+        }
     }
-    buffer[to] = b'0';
-    buffer[to + 1] = b'\n';
-    to + 2
+
+    // Writes a signed number and the space after it.
+    fn put_literal(&mut self, x: i32)
+        requires { Room self.old (length (number_text x)) }
+        ensures { Puts self.old (number_text x) self.new }
+    {
+        self.put_sign(x);
+        self.put_decimal(text::absolute(x));
+        self.put(b' ');
+    }
+
+    // Writes the line of signed numbers.
+    pub(crate) fn put_line(&mut self, literals: &[i32])
+        requires { Room self.old (length (numbers_line literals.now)) }
+        ensures { Puts self.old (numbers_line literals.now) self.new }
+    {
+        for literal in literals {
+            self.put_literal(*literal);
+        }
+        self.put_word(b"0\n");
+    }
 }

@@ -4,8 +4,8 @@ ghost use Rattle.std.specs.Prelude.{◌≡◌, ◌≤◌, length};
 ghost use Rattle.request.specs.Numbers.{refusal_of};
 ghost use Rattle.dimacs.specs.File.{number_of, values_of, Counted, head_text, file_text, size_values, size_answer};
 
-use crate::Answer;
 use formula::Sizes;
+use refusal::Refusal;
 use request::Request;
 
 // The length of the first line.
@@ -24,14 +24,11 @@ pub(crate) fn file_length(q: Request, sizes: Sizes) -> usize
 }
 
 // The size of the file: its exact length.
-pub fn file_size(q: Request) -> Answer
+pub fn file_size(q: Request) -> Result<usize, Refusal>
     ensures answer { result ≡ size_answer q }
     ensures number { number_of result ≡ refusal_of q }
     ensures values { values_of result ≡ size_values q }
 {
-    let sizes = formula_clauses::count::count(q);
-    if sizes.refusal != 0 {
-        return Answer::Refused(sizes.refusal);
-    }
-    Answer::Bytes(file_length(q, sizes))
+    let sizes = formula_clauses::count::count(q)?;
+    Ok(file_length(q, sizes))
 }

@@ -1,13 +1,13 @@
 -- What the program writes, by the answer of writing the file. Assumes nothing.
 use Rattle.std.specs.Prelude.{cond, List, [], ◌∷◌, ℕ, eqb, length, take, ◌≡◌, refl, get_or}
-use Rattle.std.proofs.Common.{sym, ap, arith, eq-eqb, ne_eqb, drop, ◌+◌}
-use Rattle.std.proofs.Math.Logic.{⊎_elim}
+use Rattle.std.proofs.Common.{sym, ap, ◌∙◌, eq-eqb, ne_eqb, drop, ◌+◌}
 use Rattle.std.proofs.Math.Seq.{take_at}
-use Rattle.prelude.specs.Tests.{eq?}
 use Rattle.prelude.specs.Written.{written}
 use Rattle.request.specs.declared.Request.{Request}
-use Rattle.dimacs.specs.declared.Answer.TheVariants.{Bytes, Refused}
-use Rattle.dimacs.specs.File.{file_text, write_number, write_values, write_answer, file_written}
+use Rattle.refusal.specs.declared.Refusal.{Refusal}
+use Rattle.refusal.specs.Refusal.{number}
+use Rattle.refusal.specs.Refusal.Laws.{number_some}
+use Rattle.dimacs.specs.File.{file_text, write_number, write_values, file_written}
 use Rattle.file.specs.Output.{refused_text}
 
 -- a text written at the start, as far as it goes
@@ -31,14 +31,5 @@ length_text q old k after n v a =
     rw z (rw s (rw b (taken old (file_text q))))
 
 -- a refusal's number is not 0
-pub refusal_text : (q : Request) (room x : ℕ) → Refused x ≡ write_answer q room → x ≡ write_number q room
-    → refused_text x ≡ text_within q room
-unfolding write_answer
-refusal_text q room x a n =
-    ⊎_elim
-    (λ (z : write_number q room ≡ 0).
-    absurd
-    (let f : Refused x ≡ Bytes (length (file_text q)) = (rw (eq-eqb (write_number q room) 0 z) at a) in
-    let y : ◌≡◌ {A = ℕ} 0 1 = cc in omega arith))
-    (λ (d : write_number q room ≡ 0 → ⊥). rw (ne_eqb (write_number q room) 0 d) (ap refused_text n))
-    (eq? (write_number q room) 0)
+pub refusal_text : (q : Request) (room : ℕ) (e : Refusal) → number e ≡ write_number q room → refused_text (number e) ≡ text_within q room
+refusal_text q room e n = rw (ne_eqb (write_number q room) 0 (λ z. number_some e (n ∙ z))) (ap refused_text n)

@@ -1,10 +1,9 @@
 -- What the program writes for an input. Assumes nothing.
-use Rattle.std.specs.Prelude.{cond, List, [], ◌∷◌, ◌++◌, ℕ, eqb, ltb, length}
+use Rattle.std.specs.Prelude.{cond, List, [], ◌∷◌, ◌++◌, ℕ, eqb, ltb, length, Ok, Err}
 use Rattle.std.specs.Fmt.{decimal}
 use Rattle.request.specs.declared.Request.{Request}
-use Rattle.request.specs.declared.Reading.{Reading}
-use Rattle.request.specs.declared.Reading.TheVariants.{Taken, Refused}
-use Rattle.request.specs.Line.{request_of}
+use Rattle.refusal.specs.Refusal.{number}
+use Rattle.request.specs.Line.{Reading, request_of}
 use Rattle.dimacs.specs.File.{file_text, write_number}
 
 -- the longest input that may be a request, and the room for its clause file, in bytes
@@ -21,8 +20,8 @@ request_text q = cond (eqb (write_number q longest) 0) (file_text q) (refused_te
 
 -- for what reading a request answers
 abbrev pub reading_text : Reading → List ℕ
-reading_text (Taken q) = request_text q
-reading_text (Refused number) = refused_text number
+reading_text (Ok q) = request_text q
+reading_text (Err e) = refused_text (number e)
 
 -- for an input; one that is too long is no request
 abbrev pub output_text : List ℕ → List ℕ

@@ -4,10 +4,11 @@
 
 ghost use Rattle.std.specs.Prelude.{◌≡◌, ◌+◌, take, IfOk, IfSome, OnOk};
 ghost use Rattle.std.specs.Io.KnownBytes.{Appends};
+ghost use Rattle.refusal.specs.Refusal.{number};
 ghost use Rattle.file.specs.Output.{longest, refused_text, request_text, output_text};
 
-use dimacs::Answer;
-use request::{Reading, Request};
+use refusal::Refusal;
+use request::Request;
 use std::alloc::Global;
 use std::io;
 use std::io::{Read, Write};
@@ -15,10 +16,10 @@ use std::io::{Read, Write};
 // The longest input that may be a request, in bytes.
 const LONGEST: usize = 65536;
 
-fn refuse<W: Write>(out: &mut W, number: u8) -> io::Result<()>
-    ensures { OnOk result (Appends (W.contents out.old) (W.contents out.new) (refused_text number)) }
+fn refuse<W: Write>(out: &mut W, refusal: Refusal) -> io::Result<()>
+    ensures { OnOk result (Appends (W.contents out.old) (W.contents out.new) (refused_text (number refusal))) }
 {
-    writeln!(out, "refused {number}")
+    writeln!(out, "refused {}", refusal.number())
 }
 
 // Writes the first bytes of a buffer.
@@ -34,8 +35,8 @@ fn write<W: Write>(out: &mut W, q: Request) -> io::Result<()>
 {
     let mut buffer = [0u8; 65536];
     match dimacs::write::write_file(q, &mut buffer) {
-        Answer::Bytes(k) => send(out, &buffer, k),
-        Answer::Refused(x) => refuse(out, x),
+        Ok(length) => send(out, &buffer, length),
+        Err(refusal) => refuse(out, refusal),
     }
 }
 
@@ -44,11 +45,11 @@ fn answer<W: Write>(out: &mut W, input: &[u8]) -> io::Result<()>
     ensures { OnOk result (Appends (W.contents out.old) (W.contents out.new) (output_text input.now)) }
 {
     if LONGEST < input.len() {
-        return refuse(out, 1);
+        return refuse(out, Refusal::RequestLine);
     }
     match request_read::read_request(input) {
-        Reading::Taken(q) => write(out, q),
-        Reading::Refused(x) => refuse(out, x),
+        Ok(q) => write(out, q),
+        Err(unread) => refuse(out, unread),
     }
 }
 

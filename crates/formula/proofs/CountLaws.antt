@@ -1,14 +1,12 @@
 -- The counts are what the clauses have: a measure of clauses that adds up over rows is so much for each on row and so much for
 -- each off row. Assumes nothing.
-use Rattle.std.specs.Prelude.{◌≡◌, ◌≢◌}
+use Rattle.std.specs.Prelude.{◌≡◌, Ok}
 use Rattle.std.proofs.Math.Path.{refl, ap, ap₂}
-use Rattle.std.proofs.Common.{sym, ◌∙◌, zero-mul, add-mul, mul-le-mul_left, mul-le-mul_right, arith, eq-eqb, ne_eqb}
+use Rattle.std.proofs.Common.{sym, ◌∙◌, zero-mul, add-mul, mul-le-mul_left, mul-le-mul_right, arith}
 use mathlib.Core.List.{List, [], ◌∷◌, ◌++◌}
-use Rattle.std.proofs.Math.Logic.{⊎_elim}
 use Prim.Native.Nat.{ℕ, zero, suc, ◌+◌, ◌*◌, ◌^◌, ◌≤◌}
 use Rattle.std.proofs.Math.Nat.{add-zero}
 use Rattle.std.proofs.Math.ListN.{length, length-append}
-use Rattle.prelude.specs.Tests.{eq?}
 use Rattle.prelude.specs.Blocks.{flatten}
 use Rattle.prelude.specs.Blocks.Laws.{flatten_append}
 use Rattle.prelude.specs.Lists.{tab}
@@ -18,6 +16,7 @@ use Rattle.rows.specs.Rows.{Row, set_below, kind_of, by_kind, off_below, row_at,
 use Rattle.rows.proofs.RowsLaws.{on_step}
 use Rattle.rows.specs.declared.Kind.{Kind}
 use Rattle.rows.specs.declared.Kind.TheVariants.{On, Off, Free}
+use Rattle.request.proofs.NumbersLaws.{refusal_most}
 use Rattle.request.specs.Numbers.{rows_most, refusal_of}
 use Rattle.request.specs.declared.Request.{Request}
 use Rattle.formula.specs.Formula.{terminals, transitivity, choices, on_row, off_row, row_variables, row_clauses, rows_from, formula, formula_of, network_variables}
@@ -25,7 +24,9 @@ use Rattle.formula.specs.Formula.Groups.{transitivity_length, transitivity_liter
 use Rattle.formula.proofs.FormulaOnRow.{on_row_length, on_row_literals_lem}
 use Rattle.formula.proofs.FormulaOffRow.{off_row_length, off_row_literals_lem}
 use Rattle.formula.proofs.FormulaRows.{variables_in, rows_append, variables_append}
-use Rattle.formula.specs.Count.{on_row_count, on_row_literals, off_row_count, off_row_literals, network_count, network_literals, split, clauses_before, literals_before, clause_count, literal_count, variable_count, sizes_of}
+use Rattle.formula.specs.Count.{on_row_count, on_row_literals, off_row_count, off_row_literals, network_count, network_literals, split, clauses_before, literals_before, clause_count, literal_count, counts_of, sizes_of}
+use Rattle.refusal.specs.Refusal.{number_of}
+use Rattle.refusal.specs.Refusal.Laws.{unless-number_of}
 
 -- so much for each row
 pub weighted_most : (on off a b c : ℕ) → on + off ≤ rows_most → a ≤ c → b ≤ c → on * a + off * b ≤ rows_most * c
@@ -167,13 +168,11 @@ module _ (q : Request) where
       simp (flatten_append, length-append) (omega arith)
 
   -- the sizes of a request that is taken
-  pub sizes_taken : refusal_of q ≡ 0
-      → sizes_of q ≡ record { refusal = 0; variables = variable_count q; clauses = clause_count q; literals = literal_count q }
+  pub sizes_taken : refusal_of q ≡ 0 → sizes_of q ≡ Ok (counts_of q)
   unfolding sizes_of
-  sizes_taken e = rw (eq-eqb (refusal_of q) 0 e)
+  sizes_taken e = rw e
 
   -- their refusal is the request's
-  pub sizes_refusal : (sizes_of q).refusal ≡ refusal_of q
+  pub sizes_refusal : number_of (sizes_of q) ≡ refusal_of q
   unfolding sizes_of
-  sizes_refusal =
-      ⊎_elim (λ (e : refusal_of q ≡ 0). rw (eq-eqb (refusal_of q) 0 e, e)) (λ (d : refusal_of q ≢ 0). rw (ne_eqb (refusal_of q) 0 d)) (eq? (refusal_of q) 0)
+  sizes_refusal = unless-number_of (refusal_of q) (counts_of q) (refusal_most q)

@@ -1,9 +1,11 @@
 -- How many variables, clauses and literals a request's clauses have, by the counts of on and off rows (document 01: "V is the number of
 -- variables, C of clauses, T of literals in all clauses"). Assumes nothing.
-use Rattle.std.specs.Prelude.{cond, eqb, ℕ, ◌+◌, ◌-◌, ◌*◌, ◌/◌, ◌^◌}
+use Rattle.std.specs.Prelude.{cond, eqb, Result, ℕ, ◌+◌, ◌-◌, ◌*◌, ◌/◌, ◌^◌}
 use Rattle.rows.specs.Rows.{set_below, off_below}
 use Rattle.request.specs.Numbers.{inputs_most, switches_most, series_most, rows_most, refusal_of}
 use Rattle.request.specs.declared.Request.{Request}
+use Rattle.refusal.specs.Refusal.{unless}
+use Rattle.refusal.specs.declared.Refusal.{Refusal}
 use Rattle.network.specs.Value.{terminals_most}
 use Rattle.formula.specs.declared.Sizes.{Sizes}
 use Rattle.formula.specs.Formula.{terminals, network_variables}
@@ -70,9 +72,10 @@ clause_count q = network_count q.n q.r + clauses_before q (2 ^ q.n)
 unfoldable pub literal_count : Request → ℕ
 literal_count q = network_literals q.n q.r + literals_before q (2 ^ q.n)
 
+-- V, C and T
+abbrev pub counts_of : Request → Sizes
+counts_of q = record { variables = variable_count q; clauses = clause_count q; literals = literal_count q }
+
 -- the refusal of a request; V, C and T where it is taken
-unfoldable pub sizes_of : Request → Sizes
-sizes_of q =
-    cond (eqb (refusal_of q) 0)
-    (record { refusal = 0; variables = variable_count q; clauses = clause_count q; literals = literal_count q })
-    (record { refusal = refusal_of q; variables = 0; clauses = 0; literals = 0 })
+unfoldable pub sizes_of : Request → Result Sizes Refusal
+sizes_of q = unless (refusal_of q) (counts_of q)

@@ -6,7 +6,7 @@ use cnf::Literal;
 
 // A clause: the positive literals of some variables in a row, from the first on, or one to three literals. Which of these a clause
 // of a request is, `packed` says (specs/Clause.antt).
-#[derive(Clone, Copy)]
+#[derive(Clone, Copy, Debug, PartialEq, Eq)]
 pub enum Clause {
     Run(u32, u32),
     One(Literal),
@@ -14,10 +14,9 @@ pub enum Clause {
     Three(Literal, Literal, Literal),
 }
 
-// The refusal of a request, 0 where it is taken, and V, C and T, 0 where it is not.
-#[derive(Clone, Copy)]
+// V, C and T of a request.
+#[derive(Clone, Copy, Debug, PartialEq, Eq)]
 pub struct Sizes {
-    pub refusal: u8,
     pub variables: u32,
     pub clauses: u32,
     pub literals: u32,

@@ -22,6 +22,10 @@ block_clauses n r m (On B k) = on_row n r m B (literal_on n k)
 block_clauses n r m (Off B k) = off_row n (terminals r) r B (literal_on n k)
 block_clauses n r m Free = []
 
+-- those of a block of a request
+abbrev pub clauses_in : Request → Block → Formula
+clauses_in q b = block_clauses q.n q.r q.m b
+
 -- the variables of its row
 abbrev pub block_variables : ℕ → ℕ → Block → ℕ
 block_variables r m Network = 0

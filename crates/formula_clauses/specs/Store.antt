@@ -1,16 +1,18 @@
 -- What storing clauses answers and leaves. Assumes nothing.
-use Rattle.std.specs.Prelude.{cond, List, [], map, ℕ, ◌+◌, ◌*◌, ◌≤◌, ◌<◌, eqb, ltb, ℤ, length, get_or}
+use Rattle.std.specs.Prelude.{cond, Result, List, [], map, ℕ, ◌+◌, ◌*◌, ◌≤◌, ◌<◌, eqb, ltb, ℤ, length, get_or}
 use Rattle.prelude.specs.Blocks.{flatten, pairs_from}
 use Rattle.prelude.specs.Written.{written}
+use Rattle.refusal.specs.Refusal.{unless}
+use Rattle.refusal.specs.declared.Refusal.{Refusal}
 use Rattle.cnf.specs.Cnf.{Formula, signed_of}
 use Rattle.cnf.specs.declared.Literal.{Literal}
 use Rattle.request.specs.Numbers.{Good, refusal_of}
 use Rattle.request.specs.declared.Request.{Request}
 use Rattle.formula.specs.Clause.{Low}
 use Rattle.formula.specs.Formula.{formula_of}
-use Rattle.formula.specs.Count.{variable_count, clause_count, literal_count}
-use Rattle.formula_clauses.specs.declared.store.Stored.{Stored}
-use Rattle.formula_clauses.specs.declared.store.StoredBlock.{StoredBlock}
+use Rattle.formula.specs.Count.{variable_count, clause_count, literal_count, counts_of}
+use Rattle.formula.specs.declared.Sizes.{Sizes}
+use Rattle.formula_clauses.specs.declared.store.BlockSizes.{BlockSizes}
 use Rattle.formula_clauses.specs.declared.Block.{Block}
 use Rattle.formula_clauses.specs.Block.{block_clauses, Fits, block_formula}
 pub mod Laws
@@ -35,11 +37,8 @@ abbrev pub store_refusal : Request → ℕ → ℕ → ℕ
 store_refusal q literals pairs = room_refusal (refusal_of q) (literal_count q) (clause_count q) literals pairs
 
 -- the same with V, C and T, where nothing is refused
-unfoldable pub store_sizes : Request → ℕ → ℕ → Stored
-store_sizes q literals pairs =
-    cond (eqb (store_refusal q literals pairs) 0)
-    (record { refusal = 0; variables = stored_variables q; clauses = clause_count q; literals = literal_count q })
-    (record { refusal = store_refusal q literals pairs; variables = 0; clauses = 0; literals = 0 })
+unfoldable pub store_sizes : Request → ℕ → ℕ → Result Sizes Refusal
+store_sizes q literals pairs = unless (store_refusal q literals pairs) (counts_of q)
 
 -- the literals of the clauses, one clause after the other; a refusal writes nothing, and entries past T stand
 unfoldable pub stored_literals : Request → ℕ → List ℤ → List ℤ
@@ -74,12 +73,10 @@ pub record BlockRoom (n r m : ℕ) (b : Block) (first from literals pairs : ℕ)
 abbrev pub block_refusal : Request → ℕ → ℕ → ℕ → ℕ
 block_refusal q b literals pairs = room_refusal (refusal_of q) (length (flatten (block_formula q b))) (length (block_formula q b)) literals pairs
 
--- how many clauses and literals are stored; none where one of these applies
-unfoldable pub block_sizes : Request → ℕ → ℕ → ℕ → StoredBlock
+-- how many clauses and literals are stored, where none of these applies
+unfoldable pub block_sizes : Request → ℕ → ℕ → ℕ → Result BlockSizes Refusal
 block_sizes q b literals pairs =
-    cond (eqb (block_refusal q b literals pairs) 0)
-    (record { refusal = 0; clauses = length (block_formula q b); literals = length (flatten (block_formula q b)) })
-    (record { refusal = block_refusal q b literals pairs; clauses = 0; literals = 0 })
+    unless (block_refusal q b literals pairs) (record { clauses = length (block_formula q b); literals = length (flatten (block_formula q b)) })
 
 -- the slices, as the store has clauses; a refusal writes nothing
 unfoldable pub block_literals_in : Request → ℕ → ℕ → List ℤ → List ℤ

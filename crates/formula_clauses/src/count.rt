@@ -1,62 +1,55 @@
 // How many variables, clauses and literals a request's clauses have, by the counts of on and off rows.
 ghost use Rattle.std.specs.Prelude.{◌≡◌, ◌≤◌};
-ghost use Rattle.request.specs.Numbers.{Good};
-ghost use Rattle.formula.specs.Count.{variable_count, clause_count, literal_count, sizes_of};
+ghost use Rattle.formula.specs.Count.{variable_count, clause_count, literal_count, counts_of, sizes_of};
 
-use crate::{blocks, groups, off_row, on_row, variables};
+use crate::{blocks, groups, off_row, on_row};
 use formula::Sizes;
+use refusal::Refusal;
 use request::Request;
+use request::numbers::GoodRequest;
 
 // V
-fn variable_count(q: Request) -> u32
-    requires { Good q }
-    ensures { result ≡ variable_count q }
+fn variable_count(good: GoodRequest) -> u32
+    ensures { result ≡ variable_count good.request }
 {
-    let r = q.r as u32;
-    let m = q.m as u32;
-    variables::network_variables(q.n, q.r) + blocks::weighted_all(q, m * (2 * r + 1), 2 * r + 2)
+    blocks::variables_before(good, blocks::row_count(good))
 }
 
 // C
-fn clause_count(q: Request) -> u32
-    requires { Good q }
-    ensures { result ≡ clause_count q }
+fn clause_count(good: GoodRequest) -> u32
+    ensures { result ≡ clause_count good.request }
 {
-    let n = q.n as u32;
-    let r = q.r as u32;
-    let on = on_row::on_row_count(n, r, q.m as u32);
-    let off = off_row::off_row_count(n, r);
-    groups::network_count(q.n, q.r) + blocks::weighted_all(q, on, off)
+    let q = good.request;
+    let on = on_row::on_row_count(good);
+    let off = off_row::off_row_count(good);
+    groups::network_count(q.n, q.r) + blocks::weighted(good, blocks::row_count(good), on, off)
 }
 
 // T
-fn literal_count(q: Request) -> u32
-    requires { Good q }
-    ensures { result ≡ literal_count q }
+fn literal_count(good: GoodRequest) -> u32
+    ensures { result ≡ literal_count good.request }
 {
-    let n = q.n as u32;
-    let r = q.r as u32;
-    let on = on_row::on_row_literals(n, r, q.m as u32);
-    let off = off_row::off_row_literals(n, r);
-    groups::network_literals(q.n, q.r) + blocks::weighted_all(q, on, off)
+    let q = good.request;
+    let on = on_row::on_row_literals(good);
+    let off = off_row::off_row_literals(good);
+    groups::network_literals(q.n, q.r) + blocks::weighted(good, blocks::row_count(good), on, off)
 }
 
-pub fn count(q: Request) -> Sizes
+// V, C and T of a request that is not refused.
+pub(crate) fn sizes(good: GoodRequest) -> Sizes
+    ensures { result ≡ counts_of good.request }
+{
+    Sizes {
+        variables: variable_count(good),
+        clauses: clause_count(good),
+        literals: literal_count(good),
+    }
+}
+
+// V, C and T of a request.
+pub fn count(q: Request) -> Result<Sizes, Refusal>
     ensures { result ≡ sizes_of q }
 {
-    let refusal = request::numbers::test_request(q);
-    if refusal != 0 {
-        return Sizes {
-            refusal: refusal,
-            variables: 0,
-            clauses: 0,
-            literals: 0,
-        };
-    }
-    Sizes {
-        refusal: 0,
-        variables: variable_count(q),
-        clauses: clause_count(q),
-        literals: literal_count(q),
-    }
+    let good = q.test()?;
+    Ok(sizes(good))
 }

@@ -5,12 +5,14 @@ ghost use Rattle.formula.specs.Clause.{literals_of, packed, Packed};
 ghost use Rattle.formula.specs.Pairs.{pairs_before, triples_before, TripleIs};
 ghost use Rattle.formula.specs.Formula.{terminals, triple, transitivity, choices};
 ghost use Rattle.formula.specs.Count.{network_count, network_literals};
-ghost use Rattle.formula_clauses.specs.Block.{network_clause};
+ghost use Rattle.formula_clauses.specs.declared.Block.TheVariants.{Network};
+ghost use Rattle.formula_clauses.specs.Block.{clauses_in, network_clause};
 
 use crate::{pairs, variables};
 use cnf::{negative, positive};
 use formula::Clause;
 use request::Request;
+use request::numbers::GoodRequest;
 
 // Three terminals i < j < k.
 #[derive(Clone, Copy)]
@@ -21,6 +23,7 @@ pub struct Triple {
 }
 
 // The clauses of group 1; each has three literals.
+#[tactic(auto, using(crate::specs::Bounds::pairs_most, crate::specs::Bounds::triples_most, formula::specs::Pairs::Laws::triples_all))]
 fn transitivity_count(r: u32) -> u32
     requires { r ≤ 255 }
     ensures { (result ≡ triples_before (terminals r) (terminals r) * 3) × (result ≤ 67000000) }
@@ -30,22 +33,26 @@ fn transitivity_count(r: u32) -> u32
 }
 
 // The triple with this number among the triples below count, in order of i, then j, then k.
+#[tactic(auto, using(formula::specs::Pairs::Laws::triples_none, formula::specs::Pairs::Laws::triples_more))]
 fn triple_at(count: u32, number: u32) -> Triple
     requires { (count ≤ 512) × (number < triples_before count count) }
     ensures { TripleIs count number result.i result.j result.k }
 {
-    let mut i: u32 = 0;
     let mut rest = number;
-    while pairs::pairs_below(count - (i + 1)) <= rest {
-        rest -= pairs::pairs_below(count - (i + 1));
-        i += 1;
+    for i in 0..count {
+        let above = count - (i + 1);
+        let pairs_above = pairs::pairs_below(above);
+        if rest < pairs_above {
+            let p = pairs::pair_at(above, rest);
+            return Triple {
+                i: i,
+                j: i + 1 + p.v,
+                k: i + 1 + p.w,
+            };
+        }
+        rest -= pairs_above;
     }
-    let p = pairs::pair_at(count - (i + 1), rest);
-    Triple {
-        i: i,
-        j: i + 1 + p.v,
-        k: i + 1 + p.w,
-    }
+    unreachable!()
 }
 
 // One of the three clauses of i < j < k.
@@ -103,10 +110,12 @@ fn choice_at(n: u32, r: u32, number: u32) -> Clause
 }
 
 // The clause of groups 1 and 2 with this number.
-pub(crate) fn network_at(n: u32, r: u32, number: u32) -> Clause
-    requires { (1 ≤ n) × (n ≤ 255) × (r ≤ 255) × (number < network_count n r) }
-    ensures { (literals_of result ≡ get_or (transitivity (terminals r) ++ choices n (terminals r) r) number []) × Packed result }
+pub(crate) fn network_at(good: GoodRequest, number: u32) -> Clause
+    requires { number < network_count good.request.n good.request.r }
+    ensures { (literals_of result ≡ get_or (clauses_in good.request Network) number []) × Packed result }
 {
+    let n = good.request.n as u32;
+    let r = good.request.r as u32;
     let nets = transitivity_count(r);
     if number < nets {
         return transitivity_at(r, number);
@@ -115,6 +124,7 @@ pub(crate) fn network_at(n: u32, r: u32, number: u32) -> Clause
 }
 
 // The number of clauses of groups 1 and 2.
+#[tactic(auto, using(crate::specs::Bounds::switches_most_lem))]
 pub fn network_count(n: u8, r: u8) -> u32
     ensures { (result ≡ network_count n r) × (result ≤ 200000000) }
 {
@@ -122,12 +132,13 @@ pub fn network_count(n: u8, r: u8) -> u32
 }
 
 // The number of their literals.
+#[tactic(auto, using(crate::specs::Bounds::switches_most_lem))]
 pub(crate) fn network_literals(n: u8, r: u8) -> u32
     ensures { (result ≡ network_literals n r) × (result ≤ 400000000) }
 {
     let inputs = n as u32;
-    3 * transitivity_count(r as u32)
-        + (r as u32) * (2 * inputs + 2 * pairs::pairs_below(2 * inputs))
+    let switches = r as u32;
+    3 * transitivity_count(switches) + switches * (2 * inputs + 2 * pairs::pairs_below(2 * inputs))
 }
 
 // The clause of groups 1 and 2 of a request with this number; the empty one where there is none, or where the request is refused.
@@ -136,11 +147,11 @@ pub fn network_clause(q: Request, number: u32) -> Clause
     ensures form { result ≡ packed (network_clause q number) }
 {
     let none = Clause::Run(0, 0);
-    if request::numbers::test_request(q) != 0 {
+    let Ok(good) = q.test() else {
         return none;
-    }
+    };
     if network_count(q.n, q.r) <= number {
         return none;
     }
-    network_at(q.n as u32, q.r as u32, number)
+    network_at(good, number)
 }

@@ -11,6 +11,7 @@ pub mod number;
 mod off_row;
 mod on_row;
 mod pairs;
+mod row;
 pub mod store;
 mod values;
 pub mod variables;

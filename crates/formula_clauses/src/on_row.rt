@@ -7,15 +7,28 @@ ghost use Rattle.formula.specs.Clause.{literals_of, Packed};
 ghost use Rattle.formula.specs.Formula.{closed_step, first_step, link_step, last_step, on_row};
 ghost use Rattle.formula.specs.Count.{on_row_count, on_row_literals};
 
+use crate::row::Row;
 use crate::{values, variables};
 use cnf::{negative, positive};
 use formula::Clause;
+use request::numbers::GoodRequest;
+
+// The variables of an on row: for each step its ends and its stop.
+#[tactic(auto, using(crate::specs::Block::Laws::row_bounds))]
+pub(crate) fn on_row_variables(good: GoodRequest) -> u32
+    ensures { (result ≡ good.request.m * (2 * good.request.r + 1)) × (result ≤ 465) }
+{
+    (good.request.m as u32) * (2 * (good.request.r as u32) + 1)
+}
 
 // The clauses of an on row.
-pub(crate) fn on_row_count(n: u32, r: u32, m: u32) -> u32
-    requires { (n ≤ 8) × (r ≤ 15) × (m ≤ 15) }
-    ensures { (result ≡ on_row_count n r m) × (result ≤ 20000) }
+#[tactic(auto, using(crate::specs::Block::Laws::row_bounds, formula::proofs::FormulaOnRow::clauses_none, formula::proofs::FormulaOnRow::clauses_some))]
+pub(crate) fn on_row_count(good: GoodRequest) -> u32
+    ensures { (result ≡ on_row_count good.request.n good.request.r good.request.m) × (result ≤ 20000) }
 {
+    let n = good.request.n as u32;
+    let r = good.request.r as u32;
+    let m = good.request.m as u32;
     if m == 0 {
         return 1;
     }
@@ -23,10 +36,13 @@ pub(crate) fn on_row_count(n: u32, r: u32, m: u32) -> u32
 }
 
 // The literals of an on row.
-pub(crate) fn on_row_literals(n: u32, r: u32, m: u32) -> u32
-    requires { (n ≤ 8) × (r ≤ 15) × (m ≤ 15) }
-    ensures { (result ≡ on_row_literals n r m) × (result ≤ 50000) }
+#[tactic(auto, using(crate::specs::Block::Laws::row_bounds, formula::proofs::FormulaOnRow::literals_none, formula::proofs::FormulaOnRow::literals_some))]
+pub(crate) fn on_row_literals(good: GoodRequest) -> u32
+    ensures { (result ≡ on_row_literals good.request.n good.request.r good.request.m) × (result ≤ 50000) }
 {
+    let n = good.request.n as u32;
+    let r = good.request.r as u32;
+    let m = good.request.m as u32;
     if m == 0 {
         return 1;
     }
@@ -46,38 +62,38 @@ fn other_end(e: u32) -> u32
 }
 
 // For a step and an end: no literal that is 0 on row k.
-fn closed_step_at(n: u32, r: u32, m: u32, before: u32, k: u32, number: u32) -> Clause
-    requires { (1 ≤ n) × (n ≤ 8) × (r ≤ 15) × (m ≤ 15) × (before ≤ 65535) × (k < 2 ^ n) × (number < m * (2 * r * n)) }
-    ensures { (literals_of result ≡ get_or (closed_step n r m before (literal_on n k)) number []) × Packed result }
+fn closed_step_at(row: Row, number: u32) -> Clause
+    requires { number < row.m * (2 * row.r * row.n) }
+    ensures { (literals_of result ≡ get_or (closed_step row.n row.r row.m row.before (literal_on row.n row.k)) number []) × Packed result }
 {
-    let step = 2 * r * n;
+    let step = 2 * row.r * row.n;
     let t = number / step + 1;
-    let e = number % step / n + 1;
-    let v = values::literal_with(n, k, false, number % step % n);
+    let e = number % step / row.n + 1;
+    let v = values::literal_with(row.n, row.k, false, number % step % row.n);
     Clause::Two(
-        negative(variables::entered(r, before, t, e)),
-        negative(variables::chosen(n, r, (e - 1) / 2, v)),
+        negative(variables::entered(row.r, row.before, t, e)),
+        negative(variables::chosen(row.n, row.r, (e - 1) / 2, v)),
     )
 }
 
 // The first step starts on the source's net.
-fn first_step_at(r: u32, before: u32, number: u32) -> Clause
-    requires { (r ≤ 15) × (before ≤ 65535) × (number < 2 * r + 1) }
-    ensures { (literals_of result ≡ get_or (first_step r before) number []) × Packed result }
+fn first_step_at(row: Row, number: u32) -> Clause
+    requires { number < 2 * row.r + 1 }
+    ensures { (literals_of result ≡ get_or (first_step row.r row.before) number []) × Packed result }
 {
     let e = number + 1;
     Clause::Two(
-        negative(variables::entered(r, before, 1, e)),
-        positive(variables::joined(r, 0, e)),
+        negative(variables::entered(row.r, row.before, 1, e)),
+        positive(variables::joined(row.r, 0, e)),
     )
 }
 
 // A step follows the one before on one net: after e comes each g but e's other end, and the stop.
-fn link_step_at(r: u32, m: u32, before: u32, number: u32) -> Clause
-    requires { (r ≤ 15) × (m ≤ 15) × (before ≤ 65535) × (number < (m - 1) * (2 * r * (2 * r))) }
-    ensures { (literals_of result ≡ get_or (link_step r m before) number []) × Packed result }
+fn link_step_at(row: Row, number: u32) -> Clause
+    requires { number < (row.m - 1) * (2 * row.r * (2 * row.r)) }
+    ensures { (literals_of result ≡ get_or (link_step row.r row.m row.before) number []) × Packed result }
 {
-    let ends = 2 * r;
+    let ends = 2 * row.r;
     let step = ends * ends;
     let t = number / step + 1;
     let e = number % step / ends + 1;
@@ -85,48 +101,50 @@ fn link_step_at(r: u32, m: u32, before: u32, number: u32) -> Clause
     let end = other_end(e);
     let g = if place < end { place } else { place + 1 };
     Clause::Three(
-        negative(variables::entered(r, before, t, e)),
-        negative(variables::entered(r, before, t + 1, g)),
-        positive(variables::joined(r, end, g)),
+        negative(variables::entered(row.r, row.before, t, e)),
+        negative(variables::entered(row.r, row.before, t + 1, g)),
+        positive(variables::joined(row.r, end, g)),
     )
 }
 
 // The last step ends on the sink's net.
-fn last_step_at(r: u32, m: u32, before: u32, number: u32) -> Clause
-    requires { (r ≤ 15) × (1 ≤ m) × (m ≤ 15) × (before ≤ 65535) × (number < 2 * r) }
-    ensures { (literals_of result ≡ get_or (last_step r m before) number []) × Packed result }
+fn last_step_at(row: Row, number: u32) -> Clause
+    requires { (1 ≤ row.m) × (number < 2 * row.r) }
+    ensures { (literals_of result ≡ get_or (last_step row.r row.m row.before) number []) × Packed result }
 {
     let e = number + 1;
     Clause::Two(
-        negative(variables::entered(r, before, m, e)),
-        positive(variables::joined(r, other_end(e), 2 * r + 1)),
+        negative(variables::entered(row.r, row.before, row.m, e)),
+        positive(variables::joined(row.r, other_end(e), 2 * row.r + 1)),
     )
 }
 
 // The clause of an on row with this number. Most are links, so these are told apart from the parts before them first.
-pub(crate) fn on_row_at(n: u32, r: u32, m: u32, before: u32, k: u32, number: u32) -> Clause
-    requires { (1 ≤ n) × (n ≤ 8) × (r ≤ 15) × (m ≤ 15) × (before ≤ 65535) × (k < 2 ^ n) × (number < on_row_count n r m) }
-    ensures { (literals_of result ≡ get_or (on_row n r m before (literal_on n k)) number []) × Packed result }
+pub(crate) fn on_row_at(row: Row, number: u32) -> Clause
+    requires { number < on_row_count row.n row.r row.m }
+    ensures { (literals_of result ≡ get_or (on_row row.n row.r row.m row.before (literal_on row.n row.k)) number []) × Packed result }
 {
-    let closed = m * (2 * r * n);
+    let r = row.r;
+    let m = row.m;
+    let closed = m * (2 * r * row.n);
     let first = 2 * r + 1;
     if number < m + closed + first {
         if m == 0 {
             return Clause::Run(variables::joined(r, 0, 2 * r + 1), 1);
         }
         if number < m {
-            return Clause::Run(variables::entered(r, before, number + 1, 1), 2 * r + 1);
+            return Clause::Run(variables::entered(r, row.before, number + 1, 1), 2 * r + 1);
         }
         let past_some = number - m;
         if past_some < closed {
-            return closed_step_at(n, r, m, before, k, past_some);
+            return closed_step_at(row, past_some);
         }
-        return first_step_at(r, before, past_some - closed);
+        return first_step_at(row, past_some - closed);
     }
     let past_first = number - m - closed - first;
     let links = (m - 1) * (2 * r * (2 * r));
     if past_first < links {
-        return link_step_at(r, m, before, past_first);
+        return link_step_at(row, past_first);
     }
-    last_step_at(r, m, before, past_first - links)
+    last_step_at(row, past_first - links)
 }

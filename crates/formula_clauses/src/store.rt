@@ -1,32 +1,27 @@
 // Storing clauses (document 01, "The clause store" and "Storing clauses").
 //
 // The store is two lent slices: the literals of all clauses, one clause after the other, as signed numbers, and for each clause a
-// pair of offset and length in entries. What stands past T literals and 2C numbers stays. A refusal writes nothing.
+// pair of offset and length in entries, flat, as document 01 and the C interface have them. What stands past T literals and 2C numbers
+// stays. A refusal writes nothing.
 ghost use Rattle.std.specs.Prelude.{◌≡◌, List, [], ◌∷◌, map, ℕ, ◌+◌, ◌*◌, ◌≤◌, ◌<◌, length, ℤ};
 ghost use Rattle.prelude.specs.Written.{written};
+ghost use Rattle.refusal.specs.Refusal.{unless};
 ghost use Rattle.cnf.specs.Cnf.{signed_of};
 ghost use Rattle.formula.specs.Clause.{run, Low, literals_of};
 ghost use Rattle.prelude.specs.Blocks.{flatten, pairs_from};
 ghost use Rattle.formula.specs.Formula.{formula_of};
 ghost use Rattle.formula.specs.Count.{variables_most};
-ghost use Rattle.formula_clauses.specs.Block.{block_clauses};
-ghost use Rattle.formula_clauses.specs.Store.{signs, store_refusal, store_sizes, stored_literals, stored_pairs, Roomy, BlockRoom, block_sizes, block_literals_in, block_pairs_in};
+ghost use Rattle.formula_clauses.specs.Block.{clauses_in};
+ghost use Rattle.formula_clauses.specs.Store.{signs, room_refusal, store_refusal, store_sizes, stored_literals, stored_pairs, Roomy, BlockRoom, block_sizes, block_literals_in, block_pairs_in};
 
 use crate::{Block, blocks, count, variables};
 use cnf::Literal;
-use formula::Clause;
+use formula::{Clause, Sizes};
+use refusal::Refusal;
 use request::Request;
+use request::numbers::GoodRequest;
 
-// The refusal of storing a request's clauses, 0 where there is none; V, C and T, 0 where there is one.
-#[derive(Clone, Copy)]
-pub struct Stored {
-    pub refusal: u8,
-    pub variables: u32,
-    pub clauses: u32,
-    pub literals: u32,
-}
-
-// The signed number of a literal. A request's variables are far below the bound.
+// The signed number of a literal. A request's variables are far below the bound, for which a From could not ask.
 fn signed(literal: Literal) -> i32
     requires { literal.variable < 1000000 }
     ensures { result ≡ signed_of literal }
@@ -49,11 +44,21 @@ fn put_run(literals: &mut [i32], at: usize, first: u32, count: u32) -> usize
     requires { Low (run first count) × (at + count ≤ length literals.old) }
     ensures { (result ≡ at + count) × (literals.new ≡ written literals.old at (signs (run first count))) }
 {
-    let mut i: u32 = 0;
     let mut to = at;
-    while i < count {
+    for i in 0..count {
         to = put(literals, to, cnf::positive(first + i));
-        i += 1;
+    }
+    to
+}
+
+// Stores some literals, one after the other.
+fn put_all(literals: &mut [i32], at: usize, these: &[Literal]) -> usize
+    requires { Low these.now × (at + length these.now ≤ length literals.old) }
+    ensures { (result ≡ at + length these.now) × (literals.new ≡ written literals.old at (signs these.now)) }
+{
+    let mut to = at;
+    for x in these {
+        to = put(literals, to, *x);
     }
     to
 }
@@ -65,16 +70,9 @@ fn put_clause(literals: &mut [i32], at: usize, c: Clause) -> usize
 {
     match c {
         Clause::Run(first, count) => put_run(literals, at, first, count),
-        Clause::One(x) => put(literals, at, x),
-        Clause::Two(x, y) => {
-            let second = put(literals, at, x);
-            put(literals, second, y)
-        }
-        Clause::Three(x, y, z) => {
-            let second = put(literals, at, x);
-            let third = put(literals, second, y);
-            put(literals, third, z)
-        }
+        Clause::One(x) => put_all(literals, at, &[x]),
+        Clause::Two(x, y) => put_all(literals, at, &[x, y]),
+        Clause::Three(x, y, z) => put_all(literals, at, &[x, y, z]),
     }
 }
 
@@ -87,53 +85,40 @@ fn put_pair(pairs: &mut [u32], k: usize, offset: u32, count: u32)
     pairs[2 * k + 1] = count;
 }
 
-// The refusal of storing a block, 0 where there is none; how many clauses and literals it has, 0 where there is one.
-#[derive(Clone, Copy)]
-pub struct StoredBlock {
-    pub refusal: u8,
+// How many clauses and literals a block has.
+#[derive(Clone, Copy, Debug, PartialEq, Eq)]
+pub struct BlockSizes {
     pub clauses: u32,
     pub literals: u32,
 }
 
-fn refused(refusal: u8) -> Stored
-    ensures { result ≡ record { refusal = refusal; variables = 0; clauses = 0; literals = 0 } }
+// Whether slices of these lengths have room for so many literals and so many clauses.
+fn room(clauses: u32, needed: u32, literals: usize, pairs: usize) -> Result<(), Refusal>
+    ensures { result ≡ unless (room_refusal 0 needed clauses literals pairs) tt }
 {
-    Stored {
-        refusal: refusal,
-        variables: 0,
-        clauses: 0,
-        literals: 0,
+    if literals < needed as usize {
+        return Err(Refusal::LiteralsShort);
     }
+    if pairs < 2 * (clauses as usize) {
+        return Err(Refusal::PairsShort);
+    }
+    Ok(())
 }
 
-// Whether slices of these lengths have room for the clauses of a request, and V, C and T. Nothing is stored.
-pub fn store_sizes(q: Request, literals: usize, pairs: usize) -> Stored
+// The refusal of storing a request's clauses in slices of these lengths; V, C and T where there is none. Nothing is stored.
+pub fn store_sizes(q: Request, literals: usize, pairs: usize) -> Result<Sizes, Refusal>
     ensures { result ≡ store_sizes q literals pairs }
 {
-    let size = count::count(q);
-    if size.refusal != 0 {
-        return refused(size.refusal);
-    }
-    if literals < size.literals as usize {
-        return refused(7);
-    }
-    if pairs < 2 * (size.clauses as usize) {
-        return refused(8);
-    }
-    Stored {
-        refusal: 0,
-        variables: size.variables,
-        clauses: size.clauses,
-        literals: size.literals,
-    }
+    let good = q.test()?;
+    let size = count::sizes(good);
+    room(size.clauses, size.literals, literals, pairs)?;
+    Ok(size)
 }
 
 // Stores the clauses of a block, count of them, the first as clause `first` with its literals from the entry `from` on; the place after
 // the literals.
 fn fill_block(
-    n: u8,
-    r: u8,
-    m: u8,
+    good: GoodRequest,
     block: Block,
     count: u32,
     first: u32,
@@ -141,112 +126,73 @@ fn fill_block(
     literals: &mut [i32],
     pairs: &mut [u32],
 ) -> usize
-    requires { (count ≡ length (block_clauses n r m block)) × BlockRoom n r m block first from (length literals.old) (length pairs.old) }
-    ensures place { result ≡ from + length (flatten (block_clauses n r m block)) }
-    ensures literals { literals.new ≡ written literals.old from (signs (flatten (block_clauses n r m block))) }
-    ensures pairs { pairs.new ≡ written pairs.old (2 * first) (pairs_from from (block_clauses n r m block)) }
+    requires count { count ≡ length (clauses_in good.request block) }
+    requires room { BlockRoom good.request.n good.request.r good.request.m block first from (length literals.old) (length pairs.old) }
+    ensures place { result ≡ from + length (flatten (clauses_in good.request block)) }
+    ensures literals { literals.new ≡ written literals.old from (signs (flatten (clauses_in good.request block))) }
+    ensures pairs { pairs.new ≡ written pairs.old (2 * first) (pairs_from from (clauses_in good.request block)) }
 {
-    let mut j: u32 = 0;
     let mut at = from;
-    while j < count {
-        let c = blocks::block_clause(n, r, m, block, j);
+    for j in 0..count {
+        let c = blocks::block_clause(good, block, j);
         let end = put_clause(literals, at, c);
         put_pair(pairs, (first + j) as usize, at as u32, (end - at) as u32);
         at = end;
-        j += 1;
     }
     at
 }
 
-// Stores all clauses of a good request.
-fn fill(q: Request, literals: &mut [i32], pairs: &mut [u32])
-    requires { Roomy q (length literals.old) (length pairs.old) }
-    ensures literals { literals.new ≡ written literals.old 0 (signs (flatten (formula_of q))) }
-    ensures pairs { pairs.new ≡ written pairs.old 0 (pairs_from 0 (formula_of q)) }
+// Stores all clauses of a request that is not refused.
+fn fill(good: GoodRequest, literals: &mut [i32], pairs: &mut [u32])
+    requires { Roomy good.request (length literals.old) (length pairs.old) }
+    ensures literals { literals.new ≡ written literals.old 0 (signs (flatten (formula_of good.request))) }
+    ensures pairs { pairs.new ≡ written pairs.old 0 (pairs_from 0 (formula_of good.request)) }
 {
-    let rows = 1u32 << (q.n as u32);
-    let mut b: u32 = 0;
     let mut first: u32 = 0;
     let mut at: usize = 0;
-    let mut before = variables::network_variables(q.n, q.r);
-    while b <= rows {
-        let block = blocks::block_from(q, b, before);
-        let count = blocks::block_count(q.n, q.r, q.m, block);
-        before += blocks::block_variables(q.r, q.m, block);
-        at = fill_block(q.n, q.r, q.m, block, count, first, at, literals, pairs);
+    let mut before = variables::network_variables(good.request.n, good.request.r);
+    for b in 0..blocks::row_count(good) + 1 {
+        let block = blocks::block_from(good, b, before);
+        let count = blocks::block_count(good, block);
+        before += blocks::block_variables(good, block);
+        at = fill_block(good, block, count, first, at, literals, pairs);
         first += count;
-        b += 1;
     }
 }
 
-// Stores the clauses of a request: 0, or the number of the refusal.
-pub fn store_clauses(q: Request, literals: &mut [i32], pairs: &mut [u32]) -> u8
-    ensures answer { result ≡ store_refusal q (length literals.old) (length pairs.old) }
+// Stores the clauses of a request.
+pub fn store_clauses(q: Request, literals: &mut [i32], pairs: &mut [u32]) -> Result<(), Refusal>
+    ensures answer { result ≡ unless (store_refusal q (length literals.old) (length pairs.old)) tt }
     ensures literals { literals.new ≡ stored_literals q (length pairs.old) literals.old }
     ensures pairs { pairs.new ≡ stored_pairs q (length literals.old) pairs.old }
 {
-    let size = store_sizes(q, literals.len(), pairs.len());
-    if size.refusal != 0 {
-        return size.refusal;
-    }
-    fill(q, literals, pairs);
-    0
+    let good = q.test()?;
+    let size = count::sizes(good);
+    room(size.clauses, size.literals, literals.len(), pairs.len())?;
+    fill(good, literals, pairs);
+    Ok(())
 }
 
-// Whether slices of these lengths have room for the clauses of block b, and how many clauses and literals there are. No block is past
-// the rows' blocks.
-fn block_sizes(q: Request, b: u32, literals: usize, pairs: usize) -> StoredBlock
-    ensures { result ≡ block_sizes q b literals pairs }
-{
-    let refusal = request::numbers::test_request(q);
-    if refusal != 0 {
-        return StoredBlock {
-            refusal: refusal,
-            clauses: 0,
-            literals: 0,
-        };
-    }
-    if 1u32 << (q.n as u32) < b {
-        return StoredBlock {
-            refusal: 0,
-            clauses: 0,
-            literals: 0,
-        };
-    }
-    let block = blocks::block_at(q, b);
-    let size = blocks::block_literals(q.n, q.r, q.m, block);
-    if literals < size as usize {
-        return StoredBlock {
-            refusal: 7,
-            clauses: 0,
-            literals: 0,
-        };
-    }
-    let count = blocks::block_count(q.n, q.r, q.m, block);
-    if pairs < 2 * (count as usize) {
-        return StoredBlock {
-            refusal: 8,
-            clauses: 0,
-            literals: 0,
-        };
-    }
-    StoredBlock {
-        refusal: 0,
-        clauses: count,
-        literals: size,
-    }
-}
-
-// Stores the clauses of block b of a request as the store has all of them: groups 1 and 2 for b = 0, then a block for each row.
-pub fn store_block(q: Request, b: u32, literals: &mut [i32], pairs: &mut [u32]) -> StoredBlock
+// Stores the clauses of block b of a request as the store has all of them: groups 1 and 2 for b = 0, then a block for each row. No
+// block is past the rows' blocks.
+pub fn store_block(
+    q: Request,
+    b: u32,
+    literals: &mut [i32],
+    pairs: &mut [u32],
+) -> Result<BlockSizes, Refusal>
     ensures answer { result ≡ block_sizes q b (length literals.old) (length pairs.old) }
     ensures literals { literals.new ≡ block_literals_in q b (length pairs.old) literals.old }
     ensures pairs { pairs.new ≡ block_pairs_in q b (length literals.old) pairs.old }
 {
-    let size = block_sizes(q, b, literals.len(), pairs.len());
-    if size.clauses != 0 {
-        let block = blocks::block_at(q, b);
-        fill_block(q.n, q.r, q.m, block, size.clauses, 0, 0, literals, pairs);
-    }
-    size
+    let good = q.test()?;
+    let block = blocks::block_there(good, b);
+    let clauses = blocks::block_count(good, block);
+    let size = blocks::block_literals(good, block);
+    room(clauses, size, literals.len(), pairs.len())?;
+    fill_block(good, block, clauses, 0, 0, literals, pairs);
+    Ok(BlockSizes {
+        clauses: clauses,
+        literals: size,
+    })
 }

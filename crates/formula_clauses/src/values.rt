@@ -1,4 +1,4 @@
-// The literals that have a given value on a row, by number, rising.
+// The literals that have a given value on a row, by number, rising. The value is what is sought, and no step to run, so no closure.
 ghost use Rattle.std.specs.Prelude.{◌≡◌, ◌*◌, ◌^◌, ◌≤◌, ◌<◌};
 ghost use Rattle.formula_clauses.specs.Word.{value_word};
 ghost use Rattle.formula.specs.Values.{has_value, NthIs};
@@ -21,15 +21,14 @@ pub(crate) fn literal_with(n: u32, k: u32, value: bool, number: u32) -> u32
     ensures { NthIs (has_value n k value) (2 * n) number result }
 {
     let word = value_word(n, k, value);
-    let mut v: u32 = 0;
     let mut rest = number;
-    loop {
+    for v in 0..2 * n {
         if (word >> (2 * n - 1 - v)) % 2 == 1 {
             if rest == 0 {
                 return v;
             }
             rest -= 1;
         }
-        v += 1;
     }
+    unreachable!()
 }

@@ -1,50 +1,30 @@
-// A network as bytes, for a host: r, a literal for each switch, a label for each terminal; and back.
-ghost use Rattle.std.specs.Prelude.{◌≡◌, ◌∷◌, ◌++◌};
+// A network as bytes, for a host: r, a literal for each switch, a label for each terminal; and back. An impl of From would be no plainer:
+// it would stand in the crate of networks, which knows no host.
+ghost use Rattle.std.specs.Prelude.{◌≡◌, ◌<◌, get_or};
 ghost use Rattle.host.specs.Bytes.{network_bytes, network_of};
 
-use network::{LITERALS, Labels, Literals, Network, TERMINALS};
+use network::{LITERALS, Network, TERMINALS};
+use std::array;
 
 // A network's r, its literals and its labels in one array.
 pub type NetworkBytes = [u8; 1 + LITERALS + TERMINALS];
 
-fn in_bytes(r: u8, literals: Literals, labels: Labels) -> NetworkBytes
-    ensures { result ≡ r ∷ (literals ++ labels) }
+// The byte of a network at a place.
+fn byte_at(w: Network, i: usize) -> u8
+    requires { i < 24 }
+    ensures { result ≡ get_or (network_bytes w) i 0 }
 {
-    [
-        r,
-        literals[0],
-        literals[1],
-        literals[2],
-        literals[3],
-        literals[4],
-        literals[5],
-        literals[6],
-        labels[0],
-        labels[1],
-        labels[2],
-        labels[3],
-        labels[4],
-        labels[5],
-        labels[6],
-        labels[7],
-        labels[8],
-        labels[9],
-        labels[10],
-        labels[11],
-        labels[12],
-        labels[13],
-        labels[14],
-        labels[15],
-    ]
+    match i {
+        0 => w.r,
+        1..=LITERALS => w.literals[i - 1],
+        _ => w.labels[i - 1 - LITERALS],
+    }
 }
 
-// The same of a network as a value.
 pub(crate) fn network_bytes(w: Network) -> NetworkBytes
     ensures { result ≡ network_bytes w }
 {
-    let literals = w.literals;
-    let labels = w.labels;
-    in_bytes(w.r, literals, labels)
+    array::from_fn(|i| byte_at(w, i))
 }
 
 // The network that such bytes are.
@@ -53,12 +33,7 @@ pub(crate) fn network_of(bytes: NetworkBytes) -> Network
 {
     Network {
         r: bytes[0],
-        literals: [
-            bytes[1], bytes[2], bytes[3], bytes[4], bytes[5], bytes[6], bytes[7],
-        ],
-        labels: [
-            bytes[8], bytes[9], bytes[10], bytes[11], bytes[12], bytes[13], bytes[14], bytes[15],
-            bytes[16], bytes[17], bytes[18], bytes[19], bytes[20], bytes[21], bytes[22], bytes[23],
-        ],
+        literals: array::from_fn(|s| bytes[1 + s]),
+        labels: array::from_fn(|i| bytes[1 + LITERALS + i]),
     }
 }

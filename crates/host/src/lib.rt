@@ -20,10 +20,7 @@ ghost use Rattle.settle.specs.Settle.{verdict_number, verdict_values};
 ghost use Rattle.host.specs.Bytes.{network_of};
 ghost use Rattle.host.specs.Entries.{size_numbers, check_code, check_detail, verdict_code, verdict_detail, Checks, Settles};
 
-use dimacs::Answer;
-use lrat::Outcome;
-use network::Checked;
-use request::{Reading, Request};
+use request::Request;
 use settle::Verdict;
 
 mod bytes;
@@ -47,7 +44,7 @@ pub fn nk_read_request(
     ensures m { m.new ≡ get_or (request_values text.now) 4 m.old }
 {
     match request_read::read_request(text) {
-        Reading::Taken(q) => {
+        Ok(q) => {
             *n = q.n;
             *table = q.table;
             *free = q.free;
@@ -55,7 +52,7 @@ pub fn nk_read_request(
             *m = q.m;
             0
         }
-        Reading::Refused(number) => number as u32,
+        Err(refusal) => u32::from(refusal),
     }
 }
 
@@ -75,20 +72,15 @@ pub fn nk_sizes(
     ensures clauses { clauses.new ≡ get_or (size_numbers (asked n table free r m)) 1 clauses.old }
     ensures literals { literals.new ≡ get_or (size_numbers (asked n table free r m)) 2 literals.old }
 {
-    let sizes = formula_clauses::count::count(Request {
-        n,
-        table,
-        free,
-        r,
-        m,
-    });
-    if sizes.refusal != 0 {
-        return sizes.refusal as u32;
+    match formula_clauses::count::count(Request::new(n, table, free, r, m)) {
+        Ok(sizes) => {
+            *variables = sizes.variables;
+            *clauses = sizes.clauses;
+            *literals = sizes.literals;
+            0
+        }
+        Err(refusal) => u32::from(refusal),
     }
-    *variables = sizes.variables;
-    *clauses = sizes.clauses;
-    *literals = sizes.literals;
-    0
 }
 
 // Checks a network, as the 24 bytes that nk_settle writes, against a request: 0 does, 1 wrong, 2 refused; the lowest wrong row or the
@@ -107,26 +99,17 @@ pub fn nk_check_network(
     ensures does { result ≡ 0 → Does (asked n table free r m) (listed r (network_of network.now)) }
 {
     let w = bytes::network_of(*network);
-    match network_check::check_network(
-        Request {
-            n,
-            table,
-            free,
-            r,
-            m,
-        },
-        w,
-    ) {
-        Checked::Does => {
+    match network_check::check_network(Request::new(n, table, free, r, m), w) {
+        Ok(None) => {
             *number = 0;
             0
         }
-        Checked::Wrong(row) => {
-            *number = row as u32;
+        Ok(Some(row)) => {
+            *number = u32::from(row);
             1
         }
-        Checked::Refused(refusal) => {
-            *number = refusal as u32;
+        Err(refusal) => {
+            *number = u32::from(refusal);
             2
         }
     }
@@ -137,18 +120,12 @@ pub fn nk_file_size(n: u8, table: u16, free: u16, r: u8, m: u8, size: &mut u64) 
     ensures refusal { result ≡ refusal_of (asked n table free r m) }
     ensures size { size.new ≡ get_or (size_values (asked n table free r m)) 0 size.old }
 {
-    match dimacs::size::file_size(Request {
-        n,
-        table,
-        free,
-        r,
-        m,
-    }) {
-        Answer::Bytes(k) => {
-            *size = k as u64;
+    match dimacs::size::file_size(Request::new(n, table, free, r, m)) {
+        Ok(length) => {
+            *size = length as u64;
             0
         }
-        Answer::Refused(x) => x as u32,
+        Err(size_refused) => u32::from(size_refused),
     }
 }
 
@@ -167,21 +144,12 @@ pub fn nk_write_file(
     ensures size { size.new ≡ get_or (write_values (asked n table free r m) (length buffer.old)) 0 size.old }
     ensures meaning { result ≡ 0 → FileMeans (asked n table free r m) }
 {
-    match dimacs::write::write_file(
-        Request {
-            n,
-            table,
-            free,
-            r,
-            m,
-        },
-        buffer,
-    ) {
-        Answer::Bytes(count) => {
-            *size = count as u64;
+    match dimacs::write::write_file(Request::new(n, table, free, r, m), buffer) {
+        Ok(written) => {
+            *size = written as u64;
             0
         }
-        Answer::Refused(number) => number as u32,
+        Err(write_refused) => u32::from(write_refused),
     }
 }
 
@@ -189,17 +157,10 @@ pub fn nk_write_file(
 pub fn nk_test_answer(n: u8, table: u16, free: u16, r: u8, m: u8, text: &[u8]) -> u32
     ensures { result ≡ (reading_of (asked n table free r m) text.now).refusal }
 {
-    let read = answer_read::read::read_answer(
-        Request {
-            n,
-            table,
-            free,
-            r,
-            m,
-        },
-        text,
-    );
-    read.refusal as u32
+    match answer_read::read::read_answer(Request::new(n, table, free, r, m), text) {
+        Ok(_) => 0,
+        Err(answer_refused) => u32::from(answer_refused),
+    }
 }
 
 // Checks a refutation of a request's clauses over four lent slices: 0 for "none", else the refusal; the number of added pairs goes
@@ -222,13 +183,7 @@ pub fn nk_check_refutation(
     ensures more { result ≡ 0 → MoreThan (asked n table free r m) }
 {
     let checked = lrat_check::check::check(
-        Request {
-            n,
-            table,
-            free,
-            r,
-            m,
-        },
+        Request::new(n, table, free, r, m),
         text,
         literals,
         pairs,
@@ -236,14 +191,13 @@ pub fn nk_check_refutation(
         values,
     );
     *count = checked.count;
-    let outcome = checked.outcome;
-    match outcome {
-        Outcome::None => 0,
-        Outcome::Refused(number) => number as u32,
+    match checked.outcome {
+        Ok(()) => 0,
+        Err(refusal) => u32::from(refusal),
     }
 }
 
-// The number of a verdict for the host: 0 least, 1 works, 2 fails, 3 refused.
+// The number of a verdict for the host, since C takes no enum with values: 0 least, 1 works, 2 fails, 3 refused.
 fn verdict_code(k: u8, verdict: Verdict) -> u32
     ensures { result ≡ verdict_code (verdict_values k verdict) }
 {
@@ -261,9 +215,9 @@ fn verdict_detail(k: u8, verdict: Verdict) -> u32
 {
     match verdict {
         Verdict::Least => 0,
-        Verdict::Works(number) => number as u32,
-        Verdict::Fails(row) => row as u32,
-        Verdict::Refused(number) => number as u32,
+        Verdict::Works(refusal) => u32::from(refusal),
+        Verdict::Fails(row) => u32::from(row),
+        Verdict::Refused(refusal) => u32::from(refusal),
     }
 }
 
@@ -288,13 +242,7 @@ pub fn nk_settle(
     ensures least { result ≡ 0 → LeastFor (asked n table free k m) (network_of network.new) }
 {
     let settled = settle::settle(
-        Request {
-            n,
-            table,
-            free,
-            r: k,
-            m,
-        },
+        Request::new(n, table, free, k, m),
         answer,
         refutation,
         literals,
@@ -302,9 +250,7 @@ pub fn nk_settle(
         added,
         values,
     );
-    let w = settled.network;
-    *network = bytes::network_bytes(w);
-    let verdict = settled.verdict;
-    *number = verdict_detail(k, verdict);
-    verdict_code(k, verdict)
+    *network = bytes::network_bytes(settled.network);
+    *number = verdict_detail(k, settled.verdict);
+    verdict_code(k, settled.verdict)
 }

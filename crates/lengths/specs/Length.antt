@@ -4,7 +4,6 @@ use Rattle.prelude.specs.Sums.{sum}
 use Rattle.request.specs.Numbers.{inputs_most}
 use Rattle.formula.specs.Formula.{terminals, X, L}
 use Rattle.formula.specs.Values.{has_value}
-use Rattle.lengths.specs.declared.parts.Nets.{Nets}
 use Rattle.lengths.specs.Lines.{literal_length}
 pub mod Laws
 pub mod Groups
@@ -63,12 +62,12 @@ link_length r at joined =
 unfoldable pub links_length : ℕ → ℕ → ℕ → ℕ → ℕ
 links_length r m B joined = sum (m - 1) (λ t. link_length r (B + t * (2 * r + 1)) joined)
 
--- the lengths of X that each on row has
-pub record NetsOf (r : ℕ) (x : Nets) : Type 0 where
-  pub ends_are : x.ends ≡ joined_ends r
-  pub outer_are : x.outer ≡ joined_to r 0 + joined_to r (2 * r + 1)
-  pub ends_few : x.ends ≤ 5580
-  pub outer_few : x.outer ≤ 372
+-- the lengths of X that each on row has: from every end, and from the source and the sink
+pub record NetsOf (r ends outer : ℕ) : Type 0 where
+  pub ends_are : ends ≡ joined_ends r
+  pub outer_are : outer ≡ joined_to r 0 + joined_to r (2 * r + 1)
+  pub ends_few : ends ≤ 5580
+  pub outer_few : outer ≤ 372
 
 -- row k of n inputs, r switches and the series bound m, which B variables are before; a request has fewer of each
 pub record RowFits (n r m B k : ℕ) : Type 0 where

@@ -2,30 +2,27 @@
 #![tactic(auto)]
 
 mod parts;
+mod sums;
 
 ghost use Rattle.std.specs.Prelude.{◌≡◌};
-ghost use Rattle.request.specs.Numbers.{Good};
 ghost use Rattle.formula.specs.Formula.{formula_of};
 ghost use Rattle.lengths.specs.Lines.{lines_length, request_length};
 
+use crate::parts::Nets;
 use formula_clauses::variables;
 use request::Request;
 
-// The length of the lines of a good request: those of groups 1 and 2, and row by row.
-fn body_length(q: Request) -> u32
-    requires { Good q }
-    ensures { result ≡ lines_length (formula_of q) }
+// The length of the lines of a request that is not refused: those of groups 1 and 2, and row by row.
+fn body_length(nets: Nets) -> u32
+    ensures { result ≡ lines_length (formula_of nets.good.request) }
 {
-    let rows = 1u32 << (q.n as u32);
-    let nets = parts::nets_of(q.r);
-    let mut k: u32 = 0;
+    let q = nets.good.request;
     let mut before = variables::network_variables(q.n, q.r);
-    let mut total = parts::network_length(q.n, q.r);
-    while k < rows {
-        let row = parts::row_size(q, k, before, nets);
+    let mut total = parts::network_length(nets.good);
+    for k in 0..1u8 << q.n {
+        let row = parts::row_size(nets, k, before);
         before += row.variables;
         total += row.length;
-        k += 1;
     }
     total
 }
@@ -34,8 +31,8 @@ fn body_length(q: Request) -> u32
 pub fn lines_length(q: Request) -> u32
     ensures { result ≡ request_length q }
 {
-    if request::numbers::test_request(q) != 0 {
-        return 0;
+    match q.test() {
+        Ok(good) => body_length(parts::nets_of(good)),
+        Err(_) => 0,
     }
-    body_length(q)
 }

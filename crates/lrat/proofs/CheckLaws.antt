@@ -1,16 +1,15 @@
 -- A line by its tests, and the lines one by one. Assumes nothing.
-use Rattle.std.specs.Prelude.{◌≡◌, refl, Bool, true, not, ◌&&◌, cond, List, ◌⊎◌, eqb, ltb, length}
+use Rattle.std.specs.Prelude.{◌≡◌, refl, Bool, true, not, ◌&&◌, cond, List, [], ◌∷◌, ◌⊎◌, eqb, ltb, length, Result, Ok, Err, Some, None}
+use Rattle.std.proofs.Common.{Option}
 use Rattle.std.proofs.Math.Path.{sym, ap}
-use Rattle.std.proofs.Common.{◌∙◌, subst, inl, inr, arith}
+use Rattle.std.proofs.Common.{◌∙◌, subst, inl, inr, ⊎_elim, arith}
 use Rattle.std.proofs.Math.Bool.{false}
 use Prim.Native.Nat.{ℕ, zero, suc, ◌+◌, ◌-◌, ◌*◌, ◌≤◌, ◌<◌}
 use borrow.Author.Tests.{ltb-false, eq-eqb, ne_eqb, lt-ltb, le-ltb}
 use Rattle.prelude.specs.Tests.{eq?}
 use Rattle.cnf.specs.Cnf.{Formula}
-use Rattle.numeral.specs.declared.Word.{Word}
-use Rattle.numeral.specs.Number.{byte_at, literal_at}
+use Rattle.numeral.specs.Number.{Read, byte_at, literal_at}
 use Rattle.numeral.specs.Number.Places.{byte_in}
-use Rattle.lrat.specs.declared.HintsRead.{HintsRead}
 use Rattle.lrat.specs.declared.LiteralsRead.{LiteralsRead}
 use Rattle.lrat.specs.declared.Step.{Step}
 use Rattle.lrat.specs.Rules.{Values, unset, falsified, literals_good}
@@ -18,13 +17,58 @@ use Rattle.lrat.specs.Words.{plain_at, literals_at, ids_at, Run, run_at, Line, n
 use Rattle.lrat.specs.Words.Laws.{plain_reads, literal_reads, read_there, literals_none, literals_more, run_last, run_more, run_spaced, run_worded}
 use Rattle.lrat.specs.Words.Lines.{Ran, ran, deletion_none, deletion_open, deletion_good, addition_none, addition_hintless, addition_open, addition_good, line_none, line_open, line_deletion, line_addition}
 use Rattle.lrat.specs.Bytes.{AfterLiterals}
-use Rattle.lrat.specs.State.{hints_of, Deleted, deleted, delete_all, AddedInText, AfterHints}
+use Rattle.lrat.specs.State.{stands_in, clause_at, without, hints_of, Deleted, deleted, delete_all, AddedInText, Hinted, AfterHints}
+use Rattle.lrat.specs.Outcome.{Outcome, outcome_of}
+use Rattle.lrat.specs.Results.{step_of_left, Leaves, Deletes, Ends}
+use Rattle.lrat.proofs.OutcomeLaws.{outcome_none}
+use Rattle.lrat.proofs.RulesSound.{hinted_low, hinted_not_one}
+use Rattle.refusal.specs.declared.Refusal.{Refusal}
+use Rattle.refusal.specs.declared.Refusal.TheVariants.{TextEnds}
+use Rattle.refusal.specs.Refusal.{number, number_of}
+use Rattle.refusal.specs.Refusal.Laws.{numbered_number, unless-ok, unless-number_of, number_some}
 use Rattle.lrat.proofs.StateAdded.{good_below, spelled_at, additions_more, additions_deleted}
-use Rattle.lrat.specs.Check.{Left, left, stop, leaves, stopped, is_empty, pushed, concluded, add_step, delete_step, step_of, line_step, on_left, lines_from, lines_of}
+use Rattle.lrat.specs.Check.{Left, left, stop, is_empty, pushed, concluded, add_step, delete_step, step_of, line_step, on_left, lines_from, lines_of}
+
+-- ---- a line's result, by what it leaves
+-- a refusal by its number, which is not that of "none"
+pub refused_is : (e : Refusal) (k a next : ℕ) (added : List ℕ) → k ≡ number e → (k ≡ 1 → ⊥) → Err e ≡ step_of_left (left k a next added)
+refused_is e k a next added z d =
+    let n : k ≡ 0 → ⊥ = λ y. number_some e (sym z ∙ y) in
+    rw (ne_eqb k 0 n, ne_eqb k 1 d, z, numbered_number e)
+
+-- what a line that stops, or goes on, gives and leaves
+pub leaves : {m l : Left} {r : Result (Option Step) Refusal} → m ≡ l → r ≡ step_of_left m → Leaves l r m.added
+leaves {m = m} e f = record { result = f ∙ ap step_of_left e; pairs = ap (λ (x : Left). x.added) e }
 
 -- what is known of a line that stops is so of what the code returns
-pub stops_as : {r : Step} {k a : ℕ} {added : List ℕ} {l : Left} → r ≡ stopped k a → stop k a added ≡ l → leaves r added ≡ l
-stops_as {added = added} e f = ap (λ (x : Step). leaves x added) e ∙ f
+pub stops_as : {l : Left} {r : Result (Option Step) Refusal} {k a : ℕ} {added : List ℕ} → r ≡ step_of_left (stop k a added) → stop k a added ≡ l → Leaves l r added
+stops_as e f = leaves f e
+
+-- and back: where the check goes on, where it ends in "none", and where it is refused
+pub on_is : (l : Left) (s : Step) → Ok (Some s) ≡ step_of_left l → (l.code ≡ 0) × (s.a ≡ l.a) × (s.next ≡ l.next)
+on_is l s e = go (eq? l.code 0) (eq? l.code 1)
+  where
+    go : (l.code ≡ 0) ⊎ (l.code ≡ 0 → ⊥) → (l.code ≡ 1) ⊎ (l.code ≡ 1 → ⊥) → (l.code ≡ 0) × (s.a ≡ l.a) × (s.next ≡ l.next)
+    go (inl z) b = let f = rw (eq-eqb l.code 0 z) at e in (z, (cc), (cc))
+    go (inr d) (inl z) = let f = rw (ne_eqb l.code 0 d, eq-eqb l.code 1 z) at e in absurd (cc)
+    go (inr d) (inr n) = let f = rw (ne_eqb l.code 0 d, ne_eqb l.code 1 n) at e in absurd (cc)
+
+pub none_is : (l : Left) → Ok None ≡ step_of_left l → l.code ≡ 1
+none_is l e = go (eq? l.code 0) (eq? l.code 1)
+  where
+    go : (l.code ≡ 0) ⊎ (l.code ≡ 0 → ⊥) → (l.code ≡ 1) ⊎ (l.code ≡ 1 → ⊥) → l.code ≡ 1
+    go (inl z) b = let f = rw (eq-eqb l.code 0 z) at e in absurd (cc)
+    go (inr d) (inl z) = z
+    go (inr d) (inr n) = let f = rw (ne_eqb l.code 0 d, ne_eqb l.code 1 n) at e in absurd (cc)
+
+pub err_is : (l : Left) (x : Refusal) → Err x ≡ step_of_left l → (l.code ≡ 0 → ⊥) × (Err x ≡ outcome_of l.code)
+unfolding outcome_of
+err_is l x e = go (eq? l.code 0) (eq? l.code 1)
+  where
+    go : (l.code ≡ 0) ⊎ (l.code ≡ 0 → ⊥) → (l.code ≡ 1) ⊎ (l.code ≡ 1 → ⊥) → (l.code ≡ 0 → ⊥) × (Err x ≡ outcome_of l.code)
+    go (inl z) b = let f = rw (eq-eqb l.code 0 z) at e in absurd (cc)
+    go (inr d) (inl z) = let f = rw (ne_eqb l.code 0 d, eq-eqb l.code 1 z) at e in absurd (cc)
+    go (inr d) (inr n) = let f = rw (ne_eqb l.code 0 d, ne_eqb l.code 1 n) at e in (d, rw (ne_eqb l.code 1 n) (cc))
 
 -- ---- whether a run of the form has any literal
 pub run_empty : (t : List ℕ) (p : ℕ) → ((run_at literal_at t p).next ≡ 0 → ⊥) → is_empty (literals_at t p) ≡ eqb (run_at literal_at t p).end p
@@ -56,7 +100,7 @@ module _ (F : Formula) (t : List ℕ) (variables a : ℕ) (added : List ℕ) (id
   unfolding step_of
   add_literals z = sym (ap (step_of F t variables a added) (addition_none t id p ls.end ls.next passed.form z))
 
-  module _ (there : ls.next ≡ 0 → ⊥) (hs : HintsRead) (us : List ℕ) (hints : AfterHints F t ls.next a added stamp vs hs us) where
+  module _ (there : ls.next ≡ 0 → ⊥) (hs : Hinted) (us : List ℕ) (hints : AfterHints F t ls.next a added stamp vs hs us) where
     pub add_hints : hs.next ≡ 0 → Is (stop 16 a added)
     unfolding step_of
     add_hints z = sym (ap (step_of F t variables a added) (addition_hintless t id p ls.end ls.next passed.form there hs.next hints.form z))
@@ -98,6 +142,11 @@ module _ (F : Formula) (t : List ℕ) (variables a : ℕ) (added : List ℕ) (id
             hints_are : hints_of F t a added (falsified unset (literals_at t p)) ls.next ≡ hs.code
             hints_are = sym (hints.code read ∙ ap (λ (τ : Values). hints_of F t a added τ ls.next) (passed.vals there good))
 
+            -- no hints end in the code of "none"
+            pub add_not_one : hs.code ≡ 1 → ⊥
+            unfolding hints_of
+            add_not_one z = hinted_not_one _ _ (ids_at t ls.next) (falsified unset (literals_at t p)) (hints_are ∙ z)
+
             pub add_full : (ls.end ≡ p → ⊥) → length added < 2 * a + 2 → Is (stop 22 a added)
             unfolding add_step
             add_full d h = by _ (rw (eq-eqb id (length F + a + 1) same, good_is, empty_is, ne_eqb ls.end p d, lt-ltb (length added) (2 * a + 2) h))
@@ -126,6 +175,10 @@ module _ (F : Formula) (t : List ℕ) (variables a : ℕ) (added : List ℕ) (id
                   let e : ls.end ≡ (run_at literal_at t p).end = ap (λ (q : Run). q.end) passed.form in
                   omega (arith, r.full (λ z. some (e ∙ z)))
 
+            -- hints without the conflict, whether the clause is empty or has a place
+            pub add_stops : ((ls.end ≡ p → ⊥) → 2 * a + 2 ≤ length added) → (hs.code ≡ 0 → ⊥) → Is (stop hs.code a added)
+            add_stops room z = ⊎_elim (λ e. add_empty e z) (λ d. add_refused d (room d) z) (eq? ls.end p)
+
   -- the places of the two runs
   pub add_inside : (ls.next ≡ 0 → ⊥) → (p ≤ ls.end) × (ls.end < ls.next) × (ls.next ≤ length t)
   add_inside d =
@@ -133,6 +186,25 @@ module _ (F : Formula) (t : List ℕ) (variables a : ℕ) (added : List ℕ) (id
       let e : ls.end ≡ (run_at literal_at t p).end = ap (λ (q : Run). q.end) passed.form in
       let n : ls.next ≡ (run_at literal_at t p).next = ap (λ (q : Run). q.next) passed.form in
       (omega (arith, r.low), omega (arith, r.mid), omega (arith, r.high))
+
+-- ---- deletions end in 0 or 19
+pub delete_low : (C a : ℕ) (added xs : List ℕ) → (delete_all C a added xs).code ≤ 24
+unfolding delete_all
+delete_low C a added [] = omega arith
+delete_low C a added (x ∷ xs) = go (stands_in C a added x) (delete_low C a (without C added x) xs)
+  where
+    go : (b : Bool) → (delete_all C a (without C added x) xs).code ≤ 24 → (cond b (delete_all C a (without C added x) xs) (deleted 19 added)).code ≤ 24
+    go true h = h
+    go false h = omega arith
+
+pub delete_not_one : (C a : ℕ) (added xs : List ℕ) → (delete_all C a added xs).code ≡ 1 → ⊥
+unfolding delete_all
+delete_not_one C a added [] e = omega arith
+delete_not_one C a added (x ∷ xs) e = go (stands_in C a added x) (delete_not_one C a (without C added x) xs) e
+  where
+    go : (b : Bool) → ((delete_all C a (without C added x) xs).code ≡ 1 → ⊥) → (cond b (delete_all C a (without C added x) xs) (deleted 19 added)).code ≡ 1 → ⊥
+    go true h q = h q
+    go false h q = omega arith
 
 -- ---- a deletion, after its form was read
 module _ (F : Formula) (t : List ℕ) (variables a : ℕ) (added : List ℕ) (p e : ℕ) (is : e ≡ (run_at plain_at t p).next) where
@@ -151,13 +223,29 @@ module _ (F : Formula) (t : List ℕ) (variables a : ℕ) (added : List ℕ) (p 
       let w : deleted k l ≡ delete_all (length F) a added (ids_at t p) = s ∙ ap (λ (n : ℕ). delete_all n a added (ids_at t p)) q in
       ap (λ (x : Deleted). left x.code a (e + 1) x.added) w ∙ sym (ap (step_of F t variables a added) (deletion_good t p e is d o))
 
+  -- what it gives and leaves, by what deleting gave and left
+  module _ (d : e ≡ 0 → ⊥) (o : byte_at t e ≡ 10) (C : ℕ) (q : C ≡ length F) (r : Result (Unit {0}) Refusal) (l : List ℕ)
+      (deletes : Deletes (delete_all C a added (ids_at t p)) r l) where
+    deleted_is : left (delete_all C a added (ids_at t p)).code a (e + 1) (delete_all C a added (ids_at t p)).added ≡ step_of F t variables a added (deletion_at t p)
+    deleted_is = delete_done d o C _ _ q refl
+
+    pub delete_refused : (x : Refusal) → r ≡ Err x → Leaves (step_of F t variables a added (deletion_at t p)) (Err x) l
+    delete_refused x z =
+        let k : (delete_all C a added (ids_at t p)).code ≡ number x = sym (ap number_of (sym z ∙ deletes.result) ∙ unless-number_of {A = Unit {0}} _ tt (delete_low C a added (ids_at t p))) in
+        subst (Leaves _ (Err x)) (sym deletes.pairs) (leaves deleted_is (refused_is x _ a (e + 1) (delete_all C a added (ids_at t p)).added k (delete_not_one C a added (ids_at t p))))
+
+    pub delete_accepted : (x : Unit {0}) → r ≡ Ok x → Leaves (step_of F t variables a added (deletion_at t p)) (Ok (Some (record { a = a; next = e + 1 }))) l
+    delete_accepted x z =
+        let k = (unless-ok _ tt x (sym deletes.result ∙ z)).0 in
+        subst (Leaves _ _) (sym deletes.pairs) (leaves deleted_is (rw (eq-eqb (delete_all C a added (ids_at t p)).code 0 k)))
+
   pub deletion_inside : (e ≡ 0 → ⊥) → (p < e) × (e ≤ length t)
   deletion_inside d =
       let r = ran plain_at plain_reads t p (λ z. d (is ∙ z)) in
       (omega (arith, r.low, r.mid), omega (arith, r.high))
 
 -- ---- a line, by what follows its id
-module _ (F : Formula) (t : List ℕ) (variables a : ℕ) (added : List ℕ) (p : ℕ) (w : Word) (is : w ≡ plain_at t p) where
+module _ (F : Formula) (t : List ℕ) (variables a : ℕ) (added : List ℕ) (p : ℕ) (w : Read) (is : w ≡ plain_at t p) where
   pub step_none : w.next ≡ 0 → stop 16 a added ≡ line_step F t variables a added p
   unfolding line_step step_of
   step_none z = sym (ap (step_of F t variables a added) (line_none t p w is z))
@@ -273,7 +361,7 @@ module _ (F : Formula) (t : List ℕ) (variables a : ℕ) (added : List ℕ) (q 
   pub line_goes : Goes t (variables + 1) q (line_step F t variables a added q)
   line_goes = go (eq? (plain_at t q).next 0) (eq? (byte_at t (plain_at t q).next) 32) (eq? (byte_at t ((plain_at t q).next + 1)) 100)
     where
-      w : Word
+      w : Read
       w = plain_at t q
 
       low : (w.next ≡ 0 → ⊥) → q < w.next
@@ -313,6 +401,69 @@ few_step F t variables a added (addition id at end hints next) =
 pub step_few : (F : Formula) (t : List ℕ) (variables a : ℕ) (added : List ℕ) (p : ℕ) → (line_step F t variables a added p).a ≤ a + 1
 unfolding Few line_step
 step_few F t variables a added p = few_step F t variables a added (line_at t p)
+
+-- ---- a line after which the check does not go on adds none
+Kept : ℕ → Left → Type 0
+Kept a l = (l.code ≡ 0 → ⊥) → l.a ≡ a
+
+kept_cond : (a : ℕ) (b : Bool) (x y : Left) → Kept a x → Kept a y → Kept a (cond b x y)
+kept_cond a true x y h k = h
+kept_cond a false x y h k = k
+
+kept_step : (F : Formula) (t : List ℕ) (variables a : ℕ) (added : List ℕ) (l : Line) → Kept a (step_of F t variables a added l)
+unfolding Kept step_of add_step delete_step concluded
+kept_step F t variables a added no_line = λ d. refl
+kept_step F t variables a added (deletion at next) = λ d. refl
+kept_step F t variables a added (addition id at end hints next) =
+    let same : (k : ℕ) → Kept a (stop k a added) = λ k d. refl in
+    let more : Kept a (left 0 (a + 1) next (pushed added a at end)) = λ d. absurd (d refl) in
+    kept_cond a (eqb id (length F + a + 1)) _ _
+    (kept_cond a (literals_good variables (literals_at t at)) _ _
+    (kept_cond a (not (is_empty (literals_at t at)) && ltb (length added) (2 * a + 2)) _ _ (same 22)
+    (kept_cond a (eqb (hints_of F t a added (falsified unset (literals_at t at)) hints) 0) _ _
+    (kept_cond a (is_empty (literals_at t at)) _ _ (same 1) more) (same _)))
+    (same 18))
+    (same 17)
+
+pub step_kept : (F : Formula) (t : List ℕ) (variables a : ℕ) (added : List ℕ) (p : ℕ) → ((line_step F t variables a added p).code ≡ 0 → ⊥)
+    → (line_step F t variables a added p).a ≡ a
+unfolding Kept line_step
+step_kept F t variables a added p = kept_step F t variables a added (line_at t p)
+
+-- ---- no code is above the number of the last refusal
+Low : Left → Type 0
+Low l = l.code ≤ 24
+
+low_cond : (b : Bool) (x y : Left) → Low x → Low y → Low (cond b x y)
+low_cond true x y h k = h
+low_cond false x y h k = k
+
+low_step : (F : Formula) (t : List ℕ) (variables a : ℕ) (added : List ℕ) (l : Line) → Low (step_of F t variables a added l)
+unfolding Low step_of add_step delete_step concluded hints_of
+low_step F t variables a added no_line = omega arith
+low_step F t variables a added (deletion at next) = delete_low (length F) a added (ids_at t at)
+low_step F t variables a added (addition id at end hints next) =
+    low_cond (eqb id (length F + a + 1)) _ _
+    (low_cond (literals_good variables (literals_at t at)) _ _
+    (low_cond (not (is_empty (literals_at t at)) && ltb (length added) (2 * a + 2)) _ _ (omega arith)
+    (low_cond (eqb (hints_of F t a added (falsified unset (literals_at t at)) hints) 0) _ _
+    (low_cond (is_empty (literals_at t at)) _ _ (omega arith) (omega arith))
+    (hinted_low (stands_in (length F) a added) (clause_at F t added) (ids_at t hints) (falsified unset (literals_at t at)))))
+    (omega arith))
+    (omega arith)
+
+low_lines : (f : ℕ) (F : Formula) (t : List ℕ) (variables a : ℕ) (added : List ℕ) (p : ℕ) → Low (lines_from f F t variables a added p)
+unfolding Low lines_from line_step
+low_lines zero F t variables a added p = omega arith
+low_lines (suc f) F t variables a added p =
+    low_cond (ltb p (length t)) _ _
+    (low_cond (eqb (step_of F t variables a added (line_at t p)).code 0) _ _
+    (low_lines f F t variables _ _ _) (low_step F t variables a added (line_at t p)))
+    (omega arith)
+
+pub lines_low : (F : Formula) (t : List ℕ) (variables : ℕ) (added : List ℕ) → (lines_of F t variables added).code ≤ 24
+unfolding Low lines_of
+lines_low F t variables added = low_lines (length t) F t variables 0 added 0
 
 -- ---- the lines under way: all of them end as those from p on do
 pub record Going (F : Formula) (t : List ℕ) (variables : ℕ) (added₀ : List ℕ) (a : ℕ) (added : List ℕ) (p : ℕ) : Type 0 where
@@ -369,6 +520,30 @@ module _ {F : Formula} {t : List ℕ} {variables : ℕ} {added₀ : List ℕ} {a
     pub lines_went : l.code ≡ 0 → Went t (variables + 1) p l
     lines_went z = rw is (line_goes F t variables a added p s.additions (ap (λ (x : Left). x.code) (sym is) ∙ z))
 
+    pub lines_kept : (l.code ≡ 0 → ⊥) → l.a ≡ a
+    lines_kept d = ap (λ (x : Left). x.a) is ∙ step_kept F t variables a added p (λ z. d (ap (λ (x : Left). x.code) is ∙ z))
+
+    -- what the lines end in where one of them stops
+    pub lines_ended : (l.code ≡ 0 → ⊥) → (o : Outcome) → o ≡ outcome_of l.code → (n : List ℕ) → n ≡ l.added
+        → Ends (lines_of F t variables added₀) (record { outcome = o; count = a }) n
+    lines_ended d o q n z =
+        let e = lines_stop d in
+        record {
+          outcome = q ∙ ap (λ (x : Left). outcome_of x.code) e;
+          count = sym (lines_kept d) ∙ ap (λ (x : Left). x.a) e;
+          pairs = z ∙ ap (λ (x : Left). x.added) e;
+        }
+
+    pub lines_none : (n : List ℕ) → Leaves l (Ok None) n → Ends (lines_of F t variables added₀) (record { outcome = Ok tt; count = a }) n
+    lines_none n r =
+        let z = none_is l r.result in
+        lines_ended (λ e. omega (arith, z, e)) (Ok tt) (outcome_none l.code z) n r.pairs
+
+    pub lines_refused : (x : Refusal) (n : List ℕ) → Leaves l (Err x) n → Ends (lines_of F t variables added₀) (record { outcome = Err x; count = a }) n
+    lines_refused x n r =
+        let z = err_is l x r.result in
+        lines_ended z.0 (Err x) z.1 n r.pairs
+
     -- no more pairs than bytes
     pub lines_few : l.a ≤ p + 1
     lines_few = let h = step_few F t variables a added p in let e : l.a ≡ (line_step F t variables a added p).a = ap (λ (x : Left). x.a) is in omega (arith, s.few)
@@ -385,6 +560,29 @@ module _ {F : Formula} {t : List ℕ} {variables : ℕ} {added₀ : List ℕ} {a
           additions = w.additions;
           long = n ∙ s.long;
         }
+
+    -- and where it goes on
+    pub lines_on : (x : Step) (n : List ℕ) → Leaves l (Ok (Some x)) n → length n ≡ length added
+        → Going F t variables added₀ x.a n x.next × (p < x.next) × (x.next ≤ length t)
+    lines_on x n r k =
+        let q = on_is l x r.result in
+        let w = lines_went q.0 in (
+          subst (λ (b : ℕ). Going F t variables added₀ b n x.next) (sym q.1)
+              (subst (λ (j : ℕ). Going F t variables added₀ l.a n j) (sym q.2)
+              (subst (λ (m : List ℕ). Going F t variables added₀ l.a m l.next) (sym r.pairs) (lines_more q.0 (ap length (sym r.pairs) ∙ k)))),
+          omega (arith, w.low, q.2),
+          omega (arith, w.high, q.2),
+        )
+
+  pub lines_over : length t ≤ p → Ends (lines_of F t variables added₀) (record { outcome = Err TextEnds; count = a }) added
+  unfolding outcome_of
+  lines_over h =
+      let e = lines_end h in
+      record {
+        outcome = ap (λ (x : Left). outcome_of x.code) e;
+        count = ap (λ (x : Left). x.a) e;
+        pairs = ap (λ (x : Left). x.added) e;
+      }
 
 -- the lines never end in 0
 lines_from_coded : (f : ℕ) (F : Formula) (t : List ℕ) (variables a : ℕ) (added : List ℕ) (p : ℕ) → (lines_from f F t variables a added p).code ≡ 0 → ⊥

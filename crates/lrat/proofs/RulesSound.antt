@@ -1,5 +1,5 @@
 -- A line whose hints end in the conflict follows from the clauses that stand. Assumes nothing.
-use Rattle.std.specs.Prelude.{◌≡◌, refl, Bool, true, false, not, ◌||◌, cond, List, [], ◌∷◌, ℕ, T, eqb}
+use Rattle.std.specs.Prelude.{◌≡◌, refl, Bool, true, false, not, ◌||◌, cond, List, [], ◌∷◌, ℕ, ◌≤◌, T, eqb}
 use Rattle.std.proofs.Common.{ap, ◌∙◌, subst, ⊎_elim, arith, eqb→eq}
 use Rattle.std.proofs.Math.Option.{Option, none, some}
 use Rattle.prelude.specs.Tests.{T-cases, T_of, or_cases}
@@ -7,7 +7,7 @@ use Rattle.cnf.specs.Cnf.{Assignment, Clause, literal_holds, clause_holds}
 use Rattle.cnf.specs.declared.Literal.{Literal}
 use Rattle.lrat.specs.declared.Found.{Found}
 use Rattle.lrat.specs.declared.Found.TheVariants.{AllFalse, Unset, Other}
-use Rattle.lrat.specs.Rules.{Values, unset, assign, turned, literal_value, falsified, minus_of, before, found, after_found, hinted}
+use Rattle.lrat.specs.Rules.{Values, unset, assign, turned, literal_value, falsified, before, found, after_found, hinted}
 
 -- an assignment makes every clause that stands true
 abbrev pub Models : Assignment → (ℕ → Bool) → (ℕ → Clause) → Type 0
@@ -59,10 +59,10 @@ falsified_agrees α (l ∷ c) τ a t =
 -- what is found of a clause, said of an assignment that agrees and satisfies it
 Says : Assignment → Found → Type 0
 Says α AllFalse = ⊥
-Says α (Unset v m) = α v ≡ eqb m 0
+Says α (Unset v m) = α v ≡ not m
 Says α Other = Unit {0}
 
-literal_true : (b n : Bool) → T (cond n (not b) b) → b ≡ eqb (minus_of n) 0
+literal_true : (b n : Bool) → T (cond n (not b) b) → b ≡ not n
 literal_true true true h = absurd h
 literal_true true false h = refl
 literal_true false true h = refl
@@ -90,17 +90,17 @@ hinted_says : (α : Assignment) (stands : ℕ → Bool) (clause : ℕ → Clause
 unfolding Says
 hinted_says α stands clause m [] τ a e = omega arith
 hinted_says α stands clause m (x ∷ xs) τ a e =
-    go (λ v k s q. hinted_says α stands clause m xs (assign τ v (eqb k 0)) (assign_agrees α τ v (eqb k 0) a s) q) (stands x) refl e
+    go (λ v k s q. hinted_says α stands clause m xs (assign τ v (not k)) (assign_agrees α τ v (not k) a s) q) (stands x) refl e
   where
     Rest : Type 0
-    Rest = (v k : ℕ) → α v ≡ eqb k 0 → hinted stands clause (assign τ v (eqb k 0)) xs ≡ 0 → ⊥
+    Rest = (v : ℕ) (k : Bool) → α v ≡ not k → hinted stands clause (assign τ v (not k)) xs ≡ 0 → ⊥
 
-    after : Rest → (f : Found) → Says α f → after_found f (λ v k. hinted stands clause (assign τ v (eqb k 0)) xs) ≡ 0 → ⊥
+    after : Rest → (f : Found) → Says α f → after_found f (λ v k. hinted stands clause (assign τ v (not k)) xs) ≡ 0 → ⊥
     after h AllFalse s q = s
     after h (Unset v k) s q = h v k s q
     after h Other s q = omega arith
 
-    go : Rest → (b : Bool) → stands x ≡ b → cond b (after_found (found τ (clause x)) (λ v k. hinted stands clause (assign τ v (eqb k 0)) xs)) 19 ≡ 0 → ⊥
+    go : Rest → (b : Bool) → stands x ≡ b → cond b (after_found (found τ (clause x)) (λ v k. hinted stands clause (assign τ v (not k)) xs)) 19 ≡ 0 → ⊥
     go h true s q = after h (found τ (clause x)) (found_says α τ a (clause x) (m x s)) q
     go h false s q = omega arith
 
@@ -115,16 +115,33 @@ hinted_sound α stands clause m c xs e =
 -- no run of hints ends in 1, which the lines keep for "none"
 pub hinted_not_one : (stands : ℕ → Bool) (clause : ℕ → Clause) (xs : List ℕ) (τ : Values) → hinted stands clause τ xs ≡ 1 → ⊥
 hinted_not_one stands clause [] τ e = omega arith
-hinted_not_one stands clause (x ∷ xs) τ e = go (stands x) (λ v m q. hinted_not_one stands clause xs (assign τ v (eqb m 0)) q) e
+hinted_not_one stands clause (x ∷ xs) τ e = go (stands x) (λ v m q. hinted_not_one stands clause xs (assign τ v (not m)) q) e
   where
     Rest : Type 0
-    Rest = (v m : ℕ) → hinted stands clause (assign τ v (eqb m 0)) xs ≡ 1 → ⊥
+    Rest = (v : ℕ) (m : Bool) → hinted stands clause (assign τ v (not m)) xs ≡ 1 → ⊥
 
-    after : Rest → (f : Found) → after_found f (λ v m. hinted stands clause (assign τ v (eqb m 0)) xs) ≡ 1 → ⊥
+    after : Rest → (f : Found) → after_found f (λ v m. hinted stands clause (assign τ v (not m)) xs) ≡ 1 → ⊥
     after h AllFalse q = omega arith
     after h (Unset v m) q = h v m q
     after h Other q = omega arith
 
-    go : (b : Bool) → Rest → cond b (after_found (found τ (clause x)) (λ v m. hinted stands clause (assign τ v (eqb m 0)) xs)) 19 ≡ 1 → ⊥
+    go : (b : Bool) → Rest → cond b (after_found (found τ (clause x)) (λ v m. hinted stands clause (assign τ v (not m)) xs)) 19 ≡ 1 → ⊥
     go true h q = after h (found τ (clause x)) q
     go false h q = omega arith
+
+-- nor in a number above the last refusal's
+pub hinted_low : (stands : ℕ → Bool) (clause : ℕ → Clause) (xs : List ℕ) (τ : Values) → hinted stands clause τ xs ≤ 24
+hinted_low stands clause [] τ = omega arith
+hinted_low stands clause (x ∷ xs) τ = go (stands x) (λ v m. hinted_low stands clause xs (assign τ v (not m)))
+  where
+    Rest : Type 0
+    Rest = (v : ℕ) (m : Bool) → hinted stands clause (assign τ v (not m)) xs ≤ 24
+
+    after : Rest → (f : Found) → after_found f (λ v m. hinted stands clause (assign τ v (not m)) xs) ≤ 24
+    after h AllFalse = omega arith
+    after h (Unset v m) = h v m
+    after h Other = omega arith
+
+    go : (b : Bool) → Rest → cond b (after_found (found τ (clause x)) (λ v m. hinted stands clause (assign τ v (not m)) xs)) 19 ≤ 24
+    go true h = after h (found τ (clause x))
+    go false h = omega arith

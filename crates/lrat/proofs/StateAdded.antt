@@ -100,6 +100,11 @@ additions_without t C a added n x f e = go (le? x C)
               (f.placed j h (was l j d (eq? (2 * j + 1) i)));
         })
 
+pub additions_added : (t : List ℕ) (C a : ℕ) (added : List ℕ) (n x : ℕ) → AddedInText t a added n → true ≡ stands_in C a added x → C < x
+    → AddedInText t a (set added (2 * (x - C - 1) + 1) 0) n
+unfolding without
+additions_added t C a added n x f e l = rw (lt-leb x C l) at (additions_without t C a added n x f e)
+
 -- and after all of a line's deletions
 pub additions_deleted : (t : List ℕ) (C a : ℕ) (xs added : List ℕ) (n : ℕ) → AddedInText t a added n → AddedInText t a (delete_all C a added xs).added n
 unfolding delete_all

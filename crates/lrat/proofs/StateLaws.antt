@@ -1,6 +1,6 @@
 -- A clause by its id, one hint, and one deletion. Assumes nothing.
 use Rattle.std.proofs.Math.Path.{◌≡◌, sym, ap}
-use Rattle.std.specs.Prelude.{refl, Bool, cond, List, [], ◌∷◌, ◌⊎◌, ℕ, ◌+◌, ◌-◌, ◌*◌, ◌≤◌, ◌<◌, eqb, ℤ, length, get_or, set}
+use Rattle.std.specs.Prelude.{refl, Bool, not, cond, List, [], ◌∷◌, ◌⊎◌, ℕ, ◌+◌, ◌-◌, ◌*◌, ◌≤◌, ◌<◌, eqb, ℤ, length, get_or, set}
 use Rattle.std.proofs.Common.{◌∙◌, subst, inl, inr}
 use Rattle.std.proofs.Math.Bool.{true, false}
 use Rattle.std.proofs.Math.Logic.{⊎_elim}
@@ -11,18 +11,16 @@ use borrow.Author.Tests.{eq-eqb, ne_eqb, le-leb, lt-leb, lt-ltb, le-ltb}
 use Rattle.prelude.specs.Tests.{eq?, le?}
 use Rattle.prelude.specs.Lists.Laws.{length_tab, get_d_tab}
 use Rattle.cnf.specs.Cnf.{Clause, Formula}
-use Rattle.numeral.specs.declared.Word.{Word}
-use Rattle.numeral.specs.Number.{byte_at}
-use Rattle.lrat.specs.declared.HintsRead.{HintsRead}
+use Rattle.numeral.specs.Number.{Read, byte_at}
 use Rattle.lrat.specs.declared.Found.{Found}
 use Rattle.lrat.specs.declared.Found.TheVariants.{AllFalse, Unset, Other}
 use Rattle.lrat.specs.Rules.{Values, assign, literal_value, minus_of, before, found, after_found, hinted}
 use Rattle.lrat.specs.Words.{plain_at, literals_at, ids_at, Run, run, run_at}
 use Rattle.lrat.specs.Words.Laws.{plain_reads, ids_none, ids_more, run_unspaced, run_wordless, run_last, run_more}
 use Rattle.lrat.specs.Bytes.{values_in, DuringLine, found_in, Below, stored_clause, store_from, formula_in}
-use Rattle.lrat.specs.Bytes.Laws.{set_true, set_during}
-use Rattle.lrat.proofs.BytesScan.{minus_most}
-use Rattle.lrat.specs.State.{stands_in, clause_at, hints_of, deleted, without, delete_all, OriginalsInStore, AddedInText, AfterHint, AfterHints}
+use Rattle.lrat.specs.Bytes.Laws.{set_false, set_during}
+use Rattle.lrat.proofs.BytesScan.{minus_most, sign_back}
+use Rattle.lrat.specs.State.{stands_in, clause_at, hints_of, deleted, without, delete_all, OriginalsInStore, AddedInText, AfterHint, Hinted, AfterHints}
 
 -- ---- whether a clause stands, by its tests
 module _ (C a : ℕ) (added : List ℕ) (x : ℕ) where
@@ -41,6 +39,10 @@ module _ (C a : ℕ) (added : List ℕ) (x : ℕ) where
   pub stands_added : C < x → x - C - 1 < a → (get_or added (2 * (x - C - 1) + 1) 0 ≡ 0 → ⊥) → true ≡ stands_in C a added x
   unfolding stands_in
   stands_added l h d = rw (lt-leb x C l, lt-ltb (x - C - 1) a h, ne_eqb (get_or added (2 * (x - C - 1) + 1) 0) 0 d)
+
+  pub stands_pair : C < x → x - C - 1 < a → not (eqb (get_or added (2 * (x - C - 1) + 1) 0) 0) ≡ stands_in C a added x
+  unfolding stands_in
+  stands_pair l h = rw (lt-leb x C l, lt-ltb (x - C - 1) a h)
 
   no_both : {A : Type 0} → true ≡ stands_in C a added x → false ≡ stands_in C a added x → A
   no_both e f = absurd (let z : ◌≡◌ {A = ℕ} 0 1 = cc in omega arith)
@@ -104,20 +106,20 @@ clause_below C a lits pairs t added n x holds additions e = go (le? x C)
         (additions.placed (x - C - 1) (stands_inside C a added x e h) (stands_long C a added x e h)).below
 
 -- ---- the unset literal is one of the clause's
-found_inside : (τ : Values) (n : ℕ) (c : Clause) (v m : ℕ) → Below n c → found τ c ≡ Unset v m → (v < n) × (m ≤ 1)
+found_inside : (τ : Values) (n : ℕ) (c : Clause) (v : ℕ) (m : Bool) → Below n c → found τ c ≡ Unset v m → v < n
 found_inside τ n [] v m b e = let z : ◌≡◌ {A = ℕ} 0 1 = cc in absurd (omega arith)
 found_inside τ n (l ∷ c) v m b e = go (literal_value τ l) (found τ c) e (found_inside τ n c v m b.1)
   where
-    go : (o : Option Bool) (f : Found) → before o l f ≡ Unset v m → (f ≡ Unset v m → (v < n) × (m ≤ 1)) → (v < n) × (m ≤ 1)
+    go : (o : Option Bool) (f : Found) → before o l f ≡ Unset v m → (f ≡ Unset v m → v < n) → v < n
     go none AllFalse q k =
-        let z : l.variable ≡ v = cc in let y : minus_of l.negative ≡ m = cc in
-        (subst (λ (j : ℕ). j < n) z b.0.1, subst (λ (j : ℕ). j ≤ 1) y (minus_most l.negative))
+        let z : l.variable ≡ v = cc in
+        subst (λ (j : ℕ). j < n) z b.0.1
     go none (Unset w j) q k = let z : ◌≡◌ {A = ℕ} 0 1 = cc in absurd (omega arith)
     go none Other q k = let z : ◌≡◌ {A = ℕ} 0 1 = cc in absurd (omega arith)
     go (some false) f q k = k q
     go (some true) f q k = let z : ◌≡◌ {A = ℕ} 0 1 = cc in absurd (omega arith)
 
-pub found_below : (g : ℕ) (vs : List ℕ) (n : ℕ) (c : Clause) (v m : ℕ) → Below n c → Unset v m ≡ found_in g vs c → (v < n) × (m ≤ 1)
+pub found_below : (g : ℕ) (vs : List ℕ) (n : ℕ) (c : Clause) (v : ℕ) (m : Bool) → Below n c → Unset v m ≡ found_in g vs c → v < n
 unfolding found_in
 found_below g vs n c v m b e = found_inside (values_in g vs) n c v m b (sym e)
 
@@ -128,7 +130,7 @@ module _ (F : Formula) (t : List ℕ) (a : ℕ) (added : List ℕ) (g x : ℕ) (
 
   module _ (stands : true ≡ stands_in (length F) a added x) (f : Found) (is : f ≡ found_in g vs (clause_at F t added x)) where
     turn : (xs : List ℕ) → hinted (stands_in (length F) a added) (clause_at F t added) (values_in g vs) (x ∷ xs)
-        ≡ after_found f (λ v m. hinted (stands_in (length F) a added) (clause_at F t added) (assign (values_in g vs) v (eqb m 0)) xs)
+        ≡ after_found f (λ v m. hinted (stands_in (length F) a added) (clause_at F t added) (assign (values_in g vs) v (not m)) xs)
     unfolding found_in
     turn xs = rw (← stands, ← is)
 
@@ -138,11 +140,11 @@ module _ (F : Formula) (t : List ℕ) (a : ℕ) (added : List ℕ) (g x : ℕ) (
     pub hint_other : (r : ℕ) → r ≡ 20 → f ≡ Other → AfterHint F t a added g x vs r vs
     hint_other r z e = record { during = during; so = λ xs. turn xs ∙ rw (e, z) }
 
-    pub hint_unset : (r : ℕ) → r ≡ 21 → (v m : ℕ) → f ≡ Unset v m → v < length vs → m ≤ 1 → AfterHint F t a added g x vs r (set vs v (g + 1 - m))
-    hint_unset r z v m e l h =
+    pub hint_unset : (r : ℕ) → r ≡ 21 → (v : ℕ) (m : Bool) → f ≡ Unset v m → v < length vs → AfterHint F t a added g x vs r (set vs v (g + minus_of (not m)))
+    hint_unset r z v m e l =
         record {
-          during = set_during g vs v (g + 1 - m) (omega arith) during;
-          so = λ xs. turn xs ∙ rw (e, z, set_true g vs m v h l);
+          during = set_during g vs v (g + minus_of (not m)) (omega (arith, minus_most (not m))) during;
+          so = λ xs. turn xs ∙ rw (e, z, set_false g vs (minus_of (not m)) v (minus_most (not m)) l, sign_back (not m));
         }
 
 -- ---- hints under way: all of them end as those from p on do under the values so far, unless the code says more
@@ -157,21 +159,34 @@ pub hinting_start : (F : Formula) (t : List ℕ) (at a : ℕ) (added : List ℕ)
 hinting_start F t at a added g vs s = record { during = s; long = refl; form = refl; so_far = refl }
 
 module _ {F : Formula} {t : List ℕ} {at a : ℕ} {added : List ℕ} {g : ℕ} {vs₀ : List ℕ} {p code : ℕ} {vs : List ℕ} (s : Hinting F t at a added g vs₀ p code vs) where
-  bad_run : run_at plain_at t p ≡ run 0 0 → (r : HintsRead) → r.next ≡ 0 → AfterHints F t at a added g vs₀ r vs
-  bad_run e r y = record { during = s.during; form = y ∙ sym (ap (λ (q : Run). q.next) (s.form ∙ e)); code = λ d. absurd (d y) }
+  pub hints_bad : (run_at plain_at t p).next ≡ 0 → (r : Hinted) → r.next ≡ 0 → AfterHints F t at a added g vs₀ r vs
+  hints_bad e r y = record { during = s.during; form = y ∙ sym (ap (λ (q : Run). q.next) s.form ∙ e); code = λ d. absurd (d y) }
 
-  pub hints_unspaced : (byte_at t p ≡ 32 → ⊥) → (r : HintsRead) → r.next ≡ 0 → AfterHints F t at a added g vs₀ r vs
+  bad_run : run_at plain_at t p ≡ run 0 0 → (r : Hinted) → r.next ≡ 0 → AfterHints F t at a added g vs₀ r vs
+  bad_run e = hints_bad (ap (λ (q : Run). q.next) e)
+
+  -- a hint ended them: the others are read for their form
+  pub hinting_ended : (code ≡ 21 → ⊥) → (r : Hinted) → r.next ≡ (run_at plain_at t p).next → r.code ≡ code → AfterHints F t at a added g vs₀ r vs
+  unfolding hints_of
+  hinting_ended d r y q =
+      record {
+        during = s.during;
+        form = y ∙ sym (ap (λ (n : Run). n.next) s.form);
+        code = λ _. q ∙ sym (s.so_far ∙ rw (ne_eqb code 21 d));
+      }
+
+  pub hints_unspaced : (byte_at t p ≡ 32 → ⊥) → (r : Hinted) → r.next ≡ 0 → AfterHints F t at a added g vs₀ r vs
   hints_unspaced d = bad_run (run_unspaced plain_at plain_reads t p d)
 
-  module _ (w : Word) (is : w ≡ plain_at t (p + 1)) (space : byte_at t p ≡ 32) where
-    pub hints_wordless : w.next ≡ 0 → (r : HintsRead) → r.next ≡ 0 → AfterHints F t at a added g vs₀ r vs
+  module _ (w : Read) (is : w ≡ plain_at t (p + 1)) (space : byte_at t p ≡ 32) where
+    pub hints_wordless : w.next ≡ 0 → (r : Hinted) → r.next ≡ 0 → AfterHints F t at a added g vs₀ r vs
     hints_wordless e = bad_run (run_wordless plain_at plain_reads t p w is space e)
 
     module _ (there : w.next ≡ 0 → ⊥) where
       spent : (k : ℕ) → cond (eqb k 21) 21 k ≡ k
       spent k = ⊎_elim (λ (e : k ≡ 21). rw (e)) (λ (d : k ≡ 21 → ⊥). rw (ne_eqb k 21 d)) (eq? k 21)
 
-      pub hints_end : w.value ≡ 0 → (r : HintsRead) → r.next ≡ w.next → r.code ≡ code → AfterHints F t at a added g vs₀ r vs
+      pub hints_end : w.value ≡ 0 → (r : Hinted) → r.next ≡ w.next → r.code ≡ code → AfterHints F t at a added g vs₀ r vs
       unfolding hints_of
       hints_end z r y q =
           record {

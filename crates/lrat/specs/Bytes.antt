@@ -6,8 +6,7 @@ use Rattle.prelude.specs.Lists.{Each, tab}
 use Rattle.prelude.specs.Signed.{is_negative, variable}
 use Rattle.cnf.specs.Cnf.{Clause, Formula}
 use Rattle.cnf.specs.declared.Literal.{Literal}
-use Rattle.numeral.specs.declared.Word.{Word}
-use Rattle.numeral.specs.Number.{word}
+use Rattle.numeral.specs.Number.{Read, word}
 use Rattle.lrat.specs.declared.Found.{Found}
 use Rattle.lrat.specs.declared.LiteralsRead.{LiteralsRead}
 use Rattle.lrat.specs.Rules.{Values, unset, falsified, literals_good, minus_of, found}
@@ -54,7 +53,7 @@ Below n c = Each (Inside n) c
 abbrev pub literal_from : ℤ → Literal
 literal_from x = record { variable = variable x; negative = is_negative x }
 
-abbrev pub word_of : ℤ → Word
+abbrev pub word_of : ℤ → Read
 word_of x = word (minus_of (is_negative x)) (variable x) 0
 
 -- n literals from entry i on

@@ -1,7 +1,6 @@
 -- A line, and all lines of a text (document 01, "Checking a refutation"), over any formula. Assumes nothing.
 use Rattle.std.specs.Prelude.{Bool, true, false, not, ◌&&◌, cond, List, [], ◌∷◌, ℕ, zero, suc, ◌+◌, ◌-◌, ◌*◌, eqb, ltb, length, set}
 use Rattle.cnf.specs.Cnf.{Clause, Formula}
-use Rattle.lrat.specs.declared.Step.{Step}
 use Rattle.lrat.specs.Rules.{unset, falsified, literals_good, conflict, goes_on, says_none}
 use Rattle.lrat.specs.Words.{literals_at, ids_at, Line, no_line, addition, deletion, line_at}
 use Rattle.lrat.specs.State.{hints_of, delete_all}
@@ -18,14 +17,6 @@ left code a next added = record { code = code; a = a; next = next; added = added
 
 abbrev pub stop : ℕ → ℕ → List ℕ → Left
 stop code a added = left code a 0 added
-
--- the same of what the code returns, with the slice that it leaves
-abbrev pub leaves : Step → List ℕ → Left
-leaves r added = left r.code r.a r.next added
-
--- what the code returns where it stops
-abbrev pub stopped : ℕ → ℕ → Step
-stopped code a = record { code = code; a = a; next = 0 }
 
 abbrev pub is_empty : Clause → Bool
 is_empty [] = true

@@ -5,3 +5,4 @@ pub mod Bytes
 pub mod State
 pub mod Check
 pub mod Outcome
+pub mod Results

@@ -40,12 +40,14 @@ literals_good variables [] = true
 literals_good variables (l ∷ c) =
     leb 1 l.variable && (leb l.variable variables && (not (named l.variable c) && literals_good variables c))
 
--- a clause under the values, from its first literal on: o is the value of a literal l, and f what the literals after it are
+-- 1 for a minus, 0 for none
 abbrev pub minus_of : Bool → ℕ
 minus_of n = cond n 1 0
 
+-- a clause under the values, from its first literal on: o is the value of a literal l, and f what the literals after it are
+
 abbrev pub unset_before : Literal → Found → Found
-unset_before l AllFalse = Unset l.variable (minus_of l.negative)
+unset_before l AllFalse = Unset l.variable l.negative
 unset_before l (Unset v m) = Other
 unset_before l Other = Other
 
@@ -74,7 +76,7 @@ says_none = 1
 
 -- "all literals false is the conflict, later hints are unread; one unset and the rest false sets it true; else 20"; k goes on
 -- after a literal was set true
-abbrev pub after_found : Found → (ℕ → ℕ → ℕ) → ℕ
+abbrev pub after_found : Found → (ℕ → Bool → ℕ) → ℕ
 after_found AllFalse k = conflict
 after_found (Unset v m) k = k v m
 after_found Other k = 20
@@ -83,4 +85,4 @@ after_found Other k = 20
 abbrev pub hinted : (ℕ → Bool) → (ℕ → Clause) → Values → List ℕ → ℕ
 hinted stands clause τ [] = spent
 hinted stands clause τ (x ∷ xs) =
-    cond (stands x) (after_found (found τ (clause x)) (λ v m. hinted stands clause (assign τ v (eqb m 0)) xs)) 19
+    cond (stands x) (after_found (found τ (clause x)) (λ v m. hinted stands clause (assign τ v (not m)) xs)) 19

@@ -2,10 +2,10 @@
 use Rattle.std.specs.Prelude.{◌≡◌, Bool, not, ◌&&◌, cond, List, [], ◌∷◌, ℕ, ◌+◌, ◌-◌, ◌*◌, ◌≤◌, ◌<◌, eqb, leb, ltb, ℤ, length, get_or, set}
 use Rattle.cnf.specs.Cnf.{Clause, Formula}
 use Rattle.numeral.specs.Number.{byte_at, literal_at}
-use Rattle.lrat.specs.declared.HintsRead.{HintsRead}
 use Rattle.lrat.specs.Rules.{Values, spent, goes_on, hinted}
 use Rattle.lrat.specs.Words.{text_limit, plain_at, literals_at, ids_at, run_at}
 use Rattle.lrat.specs.Bytes.{last_stamp, values_in, DuringLine, Below, stored_clause}
+pub mod Props
 
 -- whether clause x stands, of C original clauses and a added ones: "original clauses stay standing", and a deleted one's "pair's
 -- length becomes 0"
@@ -81,8 +81,13 @@ pub record AfterHint (F : Formula) (t : List ℕ) (a : ℕ) (added : List ℕ) (
   pub so : (xs : List ℕ) → hinted (stands_in (length F) a added) (clause_at F t added) (values_in g before) (x ∷ xs)
       ≡ cond (eqb code spent) (hinted (stands_in (length F) a added) (clause_at F t added) (values_in g vs) xs) code
 
+-- where the run of the hints ends, 0 if it has not the form, and what they end in
+pub record Hinted : Type 0 where
+  pub next : ℕ
+  pub code : ℕ
+
 -- and after all hints from at on: where their run ends, 0 if it has not the form, and what they end in
-pub record AfterHints (F : Formula) (t : List ℕ) (at a : ℕ) (added : List ℕ) (g : ℕ) (before : List ℕ) (r : HintsRead)
+pub record AfterHints (F : Formula) (t : List ℕ) (at a : ℕ) (added : List ℕ) (g : ℕ) (before : List ℕ) (r : Hinted)
     (vs : List ℕ) : Type 0 where
   pub during : DuringLine g vs
   pub form : r.next ≡ (run_at plain_at t at).next

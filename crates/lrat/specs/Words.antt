@@ -2,8 +2,7 @@
 use Rattle.std.specs.Prelude.{cond, List, [], ◌∷◌, map, ℕ, zero, suc, ◌+◌, eqb, length}
 use Rattle.cnf.specs.Cnf.{Clause}
 use Rattle.cnf.specs.declared.Literal.{Literal}
-use Rattle.numeral.specs.declared.Word.{Word}
-use Rattle.numeral.specs.Number.{byte_at, number_at, literal_at}
+use Rattle.numeral.specs.Number.{Read, byte_at, number_at, literal_at}
 pub mod Laws
 pub mod Lines
 
@@ -13,27 +12,27 @@ text_limit = 16777215
 
 -- how a number is read: literal_at with a minus where one stands, plain_at without
 abbrev pub Reader : Type 0
-Reader = List ℕ → ℕ → Word
+Reader = List ℕ → ℕ → Read
 
 abbrev pub plain_at : Reader
 plain_at t p = number_at t p 0
 
 -- ---- the numbers of a run
 -- from the place p before the first number on, up to a 0 or to what is no number; f of them at most
-unfoldable pub words_from : Reader → ℕ → List ℕ → ℕ → List Word
+unfoldable pub words_from : Reader → ℕ → List ℕ → ℕ → List Read
 words_from read zero t p = []
 words_from read (suc f) t p =
     cond (eqb (read t (p + 1)).value 0) [] (read t (p + 1) ∷ words_from read f t (read t (p + 1)).next)
 
 -- a text has fewer numbers than bytes
-unfoldable pub words_at : Reader → List ℕ → ℕ → List Word
+unfoldable pub words_at : Reader → List ℕ → ℕ → List Read
 words_at read t p = words_from read (length t) t p
 
 -- a literal by its minus and its variable, a number as a literal, and the literals of a run
 abbrev pub literal : ℕ → ℕ → Literal
 literal m v = record { variable = v; negative = eqb m 1 }
 
-abbrev pub literal_of : Word → Literal
+abbrev pub literal_of : Read → Literal
 literal_of w = literal w.minus w.value
 
 unfoldable pub literals_at : List ℕ → ℕ → Clause
@@ -41,7 +40,7 @@ literals_at t p = map literal_of (words_at literal_at t p)
 
 -- the ids of a run: hints, or what a deletion names
 unfoldable pub ids_at : List ℕ → ℕ → List ℕ
-ids_at t p = map (λ (w : Word). w.value) (words_at plain_at t p)
+ids_at t p = map (λ (w : Read). w.value) (words_at plain_at t p)
 
 -- ---- the form of a run: numbers with a space before each, a 0 last
 -- where the last number before the 0 ends, and where the 0 does; 0 and 0 for what has not this form
@@ -90,7 +89,7 @@ unfoldable pub addition_at : List ℕ → ℕ → ℕ → Line
 addition_at t id p = hints_after t id p (run_at literal_at t p)
 
 -- what follows the id w
-unfoldable pub line_after : List ℕ → Word → Line
+unfoldable pub line_after : List ℕ → Read → Line
 line_after t w =
     cond (eqb w.next 0) no_line
     (cond (eqb (byte_at t w.next) 32)

@@ -1,5 +1,5 @@
 -- What checking a refutation answers, and what it leaves in the slices that it was lent. Assumes nothing.
-use Rattle.std.specs.Prelude.{cond, List, [], ◌∷◌, ◌++◌, ℕ, ◌+◌, eqb, leb, ltb, ℤ, length, drop}
+use Rattle.std.specs.Prelude.{cond, List, [], ◌∷◌, ◌++◌, ℕ, ◌+◌, eqb, leb, ltb, ℤ, length, drop, Err}
 use Rattle.request.specs.declared.Request.{Request}
 use Rattle.formula_clauses.specs.Store.{stored_formula, stored_variables, store_refusal, stored_literals, stored_pairs}
 use Rattle.lrat.specs.Words.{text_limit}
@@ -7,7 +7,7 @@ use Rattle.lrat.specs.Bytes.{zeros}
 use Rattle.lrat.specs.Check.{Left, lines_of}
 use Rattle.lrat.specs.Outcome.{outcome_of, end_number}
 use Rattle.lrat.specs.declared.Checked.{Checked}
-use Rattle.lrat.specs.declared.Outcome.TheVariants.{Refused}
+use Rattle.refusal.specs.Refusal.{numbered}
 pub mod Seam
 pub mod Laws
 pub mod Sound
@@ -47,7 +47,7 @@ unfoldable pub check_answer : Request → List ℕ → Lent → Checked
 check_answer q text s =
     cond (eqb (refusal_before q (length text) s) 0)
     (record { outcome = outcome_of (lines_for q text s.added).code; count = (lines_for q text s.added).a })
-    (record { outcome = Refused (refusal_before q (length text) s); count = 0 })
+    (record { outcome = Err (numbered (refusal_before q (length text) s)); count = 0 })
 
 -- the slices afterwards: "A refusal of 1 to 15 writes nothing. For 16 to 23 the store is filled, added pairs are those of accepted
 -- lines, deletions made are kept. After every check that got past 15 the first V+1 values are 0. All other entries stand"

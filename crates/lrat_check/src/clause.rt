@@ -1,208 +1,156 @@
 // A clause by its id: whether it stands, and what its literals are under the values. An original clause is read from the store,
 // an added one from the text, where its line has been read already.
-//
-// Most literals are false, so that a literal's byte is compared with "false", which is the stamp and the minus, before unset and
-// true are told apart.
-ghost use Rattle.std.specs.Prelude.{◌≡◌, true, ◌+◌, ◌-◌, ◌*◌, ◌≤◌, ◌<◌, length, get_or};
-ghost use Rattle.std.proofs.Math.IntN as Z;
-ghost use Rattle.prelude.specs.Signed.{is_negative, variable};
+ghost use Rattle.std.specs.Prelude.{◌≡◌, true, ◌+◌, ◌-◌, ◌≤◌, ◌<◌, map, length};
 ghost use Rattle.numeral.specs.Number.{byte_at, number_at, literal_at};
-ghost use Rattle.lrat.specs.Rules.{minus_of};
-ghost use Rattle.lrat.specs.Words.{literals_at, run_at};
-ghost use Rattle.lrat.specs.Bytes.{last_stamp, DuringLine, found_in, Below, word_of, store_from, formula_in};
-ghost use Rattle.lrat.specs.Bytes.Scan.{found_so_far};
-ghost use Rattle.lrat.specs.State.{stands_in, clause_at, values_limit, Ready};
+ghost use Rattle.numeral.specs.Number.Words.{sign_number, Is};
+ghost use Rattle.lrat.specs.Words.{text_limit, literals_at, run_at};
+ghost use Rattle.lrat.specs.Bytes.{last_stamp, DuringLine, found_in, Below, literal_from, formula_in};
+ghost use Rattle.lrat.specs.Bytes.Scan.{with_literal};
+ghost use Rattle.lrat.specs.State.{stands_in, clause_at, values_limit, OriginalsInStore, AddedInText, Spelled};
+ghost use Rattle.lrat.specs.State.Props.{clause_props};
 
 use lrat::Found;
 use numeral::Word;
 
-// What was found so far: no literal unset where var is 0.
-fn found_of(var: usize, minus: u8) -> Found
-    ensures { result ≡ found_so_far var minus }
-{
-    if var == 0 {
-        return Found::AllFalse;
-    }
-    Found::Unset(var, minus)
+// What stays the same during a check: the text, and the original clauses, which lie in the store, with V.
+#[derive(Clone, Copy)]
+pub(crate) struct Store<'a> {
+    pub(crate) text: &'a [u8],
+    pub(crate) literals: &'a [i32],
+    pub(crate) pairs: &'a [u32],
+    pub(crate) count: usize,
+    pub(crate) variables: usize,
+    ghost originals: { OriginalsInStore count literals.now pairs.now (variables + 1) } by { Prim.hlevel clause_props },
+    ghost values_fit: { variables + 1 ≤ values_limit },
+    ghost text_fits: { length text.now ≤ text_limit },
 }
 
-// The value of a digit.
-fn digit(b: u8) -> usize
-    requires { 48 ≤ b }
-    ensures { result ≡ b - 48 }
-{
-    (b as usize) - 48
+// The clauses that there are at a line: the original ones, and a added ones, whose pairs say where the text has them.
+#[derive(Clone, Copy)]
+pub(crate) struct Clauses<'a> {
+    pub(crate) store: Store<'a>,
+    pub(crate) added: &'a [u32],
+    pub(crate) a: usize,
+    ghost additions: { AddedInText store.text.now a added.now (store.variables + 1) } by { Prim.hlevel clause_props },
 }
 
-// The digits of a number that is known to stand at a place, with a space after it, after a minus where minus is 1: they are read
-// without a test of their form.
-fn known_digits(text: &[u8], at: usize, minus: u8) -> Word
-    requires there { (number_at text.now at minus).next ≡ 0 → ⊥ }
-    requires spaced { byte_at text.now (number_at text.now at minus).next ≡ 32 }
-    requires sign { minus ≤ 1 }
-    ensures { result ≡ number_at text.now at minus }
+// The values during a line: a byte below the line's stamp is an unset variable's, the stamp is false, the one above it true.
+#[derive(Clone, Copy)]
+pub(crate) struct Values<'a> {
+    pub(crate) bytes: &'a [u8],
+    pub(crate) stamp: u8,
+    ghost during_line: { DuringLine stamp bytes.now },
+    ghost stamp_fits: { stamp ≤ last_stamp },
+}
+
+impl Values<'_> {
+    // What a clause is with a literal more, by what it is without it. Most literals are false, so that a literal's byte is compared
+    // with "false", which is the stamp and the minus, before unset and true are told apart.
+    fn with(self, found: Found, variable: usize, minus: bool) -> Found
+        requires { variable < length self.bytes.now }
+        ensures { result ≡ with_literal self.entry.stamp self.entry.bytes.now found (record { variable = variable; negative = minus }) }
+    {
+        let byte = self.bytes[variable];
+        if byte == self.stamp + u8::from(minus) {
+            return found;
+        }
+        if self.stamp <= byte {
+            return Found::Other;
+        }
+        match found {
+            Found::AllFalse => Found::Unset(variable, minus),
+            Found::Unset(..) | Found::Other => Found::Other,
+        }
+    }
+}
+
+// The digits of a number that is known to stand at a place, with a space after it, after a minus or none: they are read without a
+// test of their form, up to the space.
+fn known_digits(text: &[u8], at: usize, minus: bool) -> Word
+    requires there { (number_at text.now at (sign_number minus)).next ≡ 0 → ⊥ }
+    requires spaced { byte_at text.now (number_at text.now at (sign_number minus)).next ≡ 32 }
+    ensures { Is (number_at text.now at (sign_number minus)) result }
 {
-    let mut value = digit(text[at]);
-    let mut p = at + 1;
-    while text[p] != b' ' {
-        value = value * 10 + digit(text[p]);
-        p += 1;
+    let mut value = usize::from(text[at] - b'0');
+    let mut next = at + 1;
+    // the space ends the number, and no count of its digits: a `for` would need a way out that is never taken
+    while text[next] != b' ' {
+        value = value * 10 + usize::from(text[next] - b'0');
+        next += 1;
     }
-    Word {
-        minus: minus,
-        value: value,
-        next: p,
-    }
+    Word { minus, value, next }
 }
 
 // The same of a literal.
 fn known_literal(text: &[u8], at: usize) -> Word
     requires there { (literal_at text.now at).next ≡ 0 → ⊥ }
     requires spaced { byte_at text.now (literal_at text.now at).next ≡ 32 }
-    ensures { result ≡ literal_at text.now at }
+    ensures { Is (literal_at text.now at) result }
 {
     if text[at] == b'-' {
-        return known_digits(text, at + 1, 1);
+        return known_digits(text, at + 1, true);
     }
-    known_digits(text, at, 0)
+    known_digits(text, at, false)
 }
 
-// What the clause is under the values that the text spells after the place at.
-fn evaluate_added(text: &[u8], at: usize, values: &[u8], stamp: u8) -> Found
-    requires spelled { ((run_at literal_at text.now at).next ≡ 0 → ⊥) × (byte_at text.now (run_at literal_at text.now at).next ≡ 32) }
-    requires below { Below (length values.now) (literals_at text.now at) }
-    requires during_line { DuringLine stamp values.now × (stamp ≤ last_stamp) }
-    ensures { result ≡ found_in stamp values.now (literals_at text.now at) }
+// What the clause is under the values whose first literal the text has at a place.
+fn evaluate_added(text: &[u8], at: usize, values: Values) -> Found
+    requires { Spelled text.now at (length values.bytes.now) }
+    ensures { result ≡ found_in values.entry.stamp values.entry.bytes.now (literals_at text.now (at - 1)) }
 {
-    let mut p = at;
-    let mut var: usize = 0;
-    let mut minus: u8 = 0;
-    loop {
-        let w = known_literal(text, p + 1);
-        let v = w.value;
-        if v == 0 {
-            return found_of(var, minus);
+    let mut found = Found::AllFalse;
+    let mut word = known_literal(text, at);
+    // no counted index: a word says where the next one starts, and the 0 ends them
+    while word.value != 0 {
+        found = values.with(found, word.value, word.minus);
+        word = known_literal(text, word.next + 1);
+    }
+    found
+}
+
+// And the clause of some literals of the store.
+fn evaluate_original(literals: &[i32], values: Values) -> Found
+    requires below { Below (length values.bytes.now) (map literal_from literals.now) }
+    ensures { result ≡ found_in values.entry.stamp values.entry.bytes.now (map literal_from literals.now) }
+{
+    let mut found = Found::AllFalse;
+    for literal in literals {
+        found = values.with(
+            found,
+            literal.unsigned_abs() as usize,
+            literal.is_negative(),
+        );
+    }
+    found
+}
+
+impl Clauses<'_> {
+    // Whether clause x stands.
+    pub(crate) fn stands(self, x: usize) -> bool
+        requires { 1 ≤ x }
+        ensures { result ≡ stands_in self.entry.store.count self.entry.a self.entry.added.now x }
+    {
+        if x <= self.store.count {
+            return true;
         }
-        let m = w.minus;
-        let b = values[v];
-        if b != stamp + m {
-            if stamp <= b {
-                return Found::Other;
-            }
-            if var != 0 {
-                return Found::Other;
-            }
-            var = v;
-            minus = m;
+        let k = x - self.store.count - 1;
+        k < self.a && self.added[2 * k + 1] != 0
+    }
+
+    // What clause x, which stands, is under the values.
+    pub(crate) fn evaluate(self, x: usize, values: Values) -> Found
+        requires standing { true ≡ stands_in self.store.count self.a self.added.now x }
+        requires long { length values.bytes.now ≡ self.store.variables + 1 }
+        ensures { result ≡ found_in values.entry.stamp values.entry.bytes.now
+            (clause_at (formula_in self.entry.store.count self.entry.store.literals.now self.entry.store.pairs.now) self.entry.store.text.now self.entry.added.now x) }
+    {
+        if x <= self.store.count {
+            let k = 2 * (x - 1);
+            let from = self.store.pairs[k] as usize;
+            let n = self.store.pairs[k + 1] as usize;
+            return evaluate_original(&self.store.literals[from..from + n], values);
         }
-        p = w.next;
+        let k = 2 * (x - self.store.count - 1);
+        evaluate_added(self.store.text, self.added[k] as usize, values)
     }
-}
-
-fn wide(x: u32) -> usize
-    ensures { (result ≡ x) × (result < 4294967296) }
-{
-    x as usize
-}
-
-// The sign of a literal of the store: 1 for a minus.
-fn sign_of(x: i32) -> u8
-    ensures { result ≡ minus_of (is_negative x) }
-{
-    if x < 0 { 1 } else { 0 }
-}
-
-// And its variable.
-fn variable_of(x: i32) -> u32
-    requires { variable x < 2147483648 }
-    ensures { result ≡ variable x }
-{
-    if x < 0 { (0 - x) as u32 } else { x as u32 }
-}
-
-// The literal in entry k of the store.
-fn stored(literals: &[i32], k: usize) -> Word
-    requires { (k < length literals.now) × (variable (get_or literals.now k (Z.pos 0)) < 2147483648) }
-    ensures { result ≡ word_of (get_or literals.now k (Z.pos 0)) }
-{
-    let x = literals[k];
-    Word {
-        minus: sign_of(x),
-        value: wide(variable_of(x)),
-        next: 0,
-    }
-}
-
-// And the clause that the store has in n entries from the entry from on.
-fn evaluate_original(literals: &[i32], from: usize, n: usize, values: &[u8], stamp: u8) -> Found
-    requires inside { (from + n ≤ length literals.now) × (length values.now ≤ values_limit) }
-    requires below { Below (length values.now) (store_from n literals.now from) }
-    requires during_line { DuringLine stamp values.now × (stamp ≤ last_stamp) }
-    ensures { result ≡ found_in stamp values.now (store_from n literals.now from) }
-{
-    let mut i: usize = 0;
-    let mut var: usize = 0;
-    let mut minus: u8 = 0;
-    while i < n {
-        let w = stored(literals, from + i);
-        let k = i + 1;
-        let v = w.value;
-        let m = w.minus;
-        let b = values[v];
-        if b != stamp + m {
-            if stamp <= b {
-                return Found::Other;
-            }
-            if var != 0 {
-                return Found::Other;
-            }
-            var = v;
-            minus = m;
-        }
-        i = k;
-    }
-    found_of(var, minus)
-}
-
-// Whether clause x stands.
-pub(crate) fn stands(x: usize, clauses: usize, a: usize, added: &[u32]) -> bool
-    requires { (1 ≤ x) × (2 * a ≤ length added.now) }
-    ensures { result ≡ stands_in clauses a added.now x }
-{
-    if x <= clauses {
-        return true;
-    }
-    let k = x - clauses - 1;
-    if a <= k {
-        return false;
-    }
-    if added[2 * k + 1] == 0 {
-        return false;
-    }
-    true
-}
-
-// What clause x, which stands, is under the values.
-pub(crate) fn evaluate(
-    text: &[u8],
-    x: usize,
-    literals: &[i32],
-    pairs: &[u32],
-    clauses: usize,
-    a: usize,
-    added: &[u32],
-    values: &[u8],
-    stamp: u8,
-) -> Found
-    requires standing { true ≡ stands_in clauses a added.now x }
-    requires ready { Ready clauses literals.now pairs.now text.now a added.now stamp (length values.now) }
-    requires during_line { DuringLine stamp values.now }
-    ensures { result ≡ found_in stamp values.now (clause_at (formula_in clauses literals.now pairs.now) text.now added.now x) }
-{
-    if x <= clauses {
-        let k = 2 * (x - 1);
-        return evaluate_original(literals, wide(pairs[k]), wide(pairs[k + 1]), values, stamp);
-    }
-    let k = 2 * (x - clauses - 1);
-    evaluate_added(text, wide(added[k]) - 1, values, stamp)
 }

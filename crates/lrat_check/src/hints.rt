@@ -1,83 +1,70 @@
 // The hints of a line. Decided here: 19 for a clause that does not stand, 20 for one that is neither a conflict nor a unit, 21 where
 // they are spent without conflict.
-ghost use Rattle.std.specs.Prelude.{◌≤◌, length};
-ghost use Rattle.lrat.specs.Bytes.{DuringLine, formula_in};
-ghost use Rattle.lrat.specs.State.{Ready, AfterHint, AfterHints};
+ghost use Rattle.std.specs.Prelude.{◌≡◌, ◌+◌, ◌≤◌, length, IfSome};
+ghost use Rattle.refusal.specs.Refusal.{number_of};
+ghost use Rattle.lrat.specs.Bytes.{last_stamp, DuringLine, formula_in};
+ghost use Rattle.lrat.specs.Rules.{spent};
+ghost use Rattle.lrat.specs.State.{AfterHint, AfterHints};
+ghost use Rattle.lrat.specs.Results.{hint_code, hints_read};
 
-use crate::clause;
+use crate::clause::{Clauses, Values};
+use crate::words;
 use lrat::{Found, HintsRead};
+use refusal::Refusal;
 
-// One hint: CONFLICT, 19, 20, or SPENT where a literal was set true and the hints go on.
-fn hint(
-    text: &[u8],
-    x: usize,
-    literals: &[i32],
-    pairs: &[u32],
-    clauses: usize,
-    a: usize,
-    added: &[u32],
-    values: &mut [u8],
-    stamp: u8,
-) -> u8
-    requires positive { 1 ≤ x }
-    requires ready { Ready clauses literals.now pairs.now text.now a added.now stamp (length values.old) }
-    requires during_line { DuringLine stamp values.old }
-    ensures { AfterHint (formula_in clauses literals.now pairs.now) text.now a added.now stamp x values.old result values.new }
-{
-    if clause::stands(x, clauses, a, added) {
-        let found = clause::evaluate(text, x, literals, pairs, clauses, a, added, values, stamp);
-        match found {
-            Found::AllFalse => {
-                return lrat::CONFLICT;
+impl Clauses<'_> {
+    // One hint: what it ends the hints in, Ok in the conflict, 19 or 20; none where a literal was set true and the hints go on.
+    fn hint(self, x: usize, values: &mut [u8], stamp: u8) -> Option<Result<(), Refusal>>
+        requires positive { 1 ≤ x }
+        requires values_len { (length values.old ≡ self.store.variables + 1) × (stamp ≤ last_stamp) }
+        requires during_line { DuringLine stamp values.old }
+        ensures after { AfterHint (formula_in self.entry.store.count self.entry.store.literals.now self.entry.store.pairs.now)
+            self.entry.store.text.now self.entry.a self.entry.added.now stamp x values.old (hint_code result) values.new }
+        ensures ends { IfSome result (λ outcome. number_of outcome ≡ spent → ⊥) }
+    {
+        if !self.stands(x) {
+            return Some(Err(Refusal::NotStanding));
+        }
+        match self.evaluate(
+            x,
+            Values {
+                bytes: values,
+                stamp,
+            },
+        ) {
+            Found::AllFalse => Some(Ok(())),
+            Found::Unset(variable, minus) => {
+                values[variable] = stamp + u8::from(!minus);
+                None
             }
-            Found::Other => {
-                return 20;
-            }
-            Found::Unset(v, m) => {
-                values[v] = stamp + 1 - m;
-                return lrat::SPENT;
-            }
+            Found::Other => Some(Err(Refusal::NotUnit)),
         }
     }
-    19
-}
 
-// Hints, read while their form is, from the space before the first on.
-pub(crate) fn hints(
-    text: &[u8],
-    at: usize,
-    literals: &[i32],
-    pairs: &[u32],
-    clauses: usize,
-    a: usize,
-    added: &[u32],
-    values: &mut [u8],
-    stamp: u8,
-) -> HintsRead
-    requires ready { Ready clauses literals.now pairs.now text.now a added.now stamp (length values.old) }
-    requires during_line { DuringLine stamp values.old }
-    ensures { AfterHints (formula_in clauses literals.now pairs.now) text.now at a added.now stamp values.old result values.new }
-{
-    let mut p = at;
-    let mut code = lrat::SPENT;
-    loop {
-        if numeral::byte(text, p) != b' ' {
-            return HintsRead { next: 0, code: 0 };
+    // Hints, read while their form is, from the space before the first on; none where they have not the form. After the one that ends
+    // them, the others are read for their form alone.
+    pub(crate) fn hints(self, at: usize, values: &mut [u8], stamp: u8) -> Option<HintsRead>
+        requires values_len { (length values.old ≡ self.store.variables + 1) × (stamp ≤ last_stamp) }
+        requires during_line { DuringLine stamp values.old }
+        ensures read { AfterHints (formula_in self.entry.store.count self.entry.store.literals.now self.entry.store.pairs.now)
+            self.entry.store.text.now at self.entry.a self.entry.added.now stamp values.old (hints_read result) values.new }
+        ensures there { IfSome result (λ r. r.next ≡ 0 → ⊥) }
+    {
+        let mut p = at;
+        // no counted index: a word says where the next one starts, and the 0 ends them
+        loop {
+            let id = words::word(self.store.text, p)?;
+            if id.value == 0 {
+                return Some(HintsRead {
+                    next: id.next,
+                    outcome: Err(Refusal::HintsSpent),
+                });
+            }
+            if let Some(outcome) = self.hint(id.value, values, stamp) {
+                let next = words::end(self.store.text, id.next)?;
+                return Some(HintsRead { next, outcome });
+            }
+            p = id.next;
         }
-        let w = numeral::number(text, p + 1, 0);
-        if w.next == 0 {
-            return HintsRead { next: 0, code: 0 };
-        }
-        let x = w.value;
-        if x == 0 {
-            return HintsRead {
-                next: w.next,
-                code: code,
-            };
-        }
-        if code == lrat::SPENT {
-            code = hint(text, x, literals, pairs, clauses, a, added, values, stamp);
-        }
-        p = w.next;
     }
 }

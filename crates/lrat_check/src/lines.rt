@@ -1,245 +1,195 @@
 // The lines of a text, one after the other. Decided here: 16 for a bad form, 17 for an id that is not the next, 22 for no place, 19
 // for a deletion of a clause that does not stand, 23 where the text ends. 18 comes from literals.rt, 19 to 21 of a hint from
 // hints.rt.
-ghost use Rattle.std.specs.Prelude.{◌≡◌, ◌+◌, ◌*◌, ◌≤◌, ◌<◌, length};
-ghost use Rattle.lrat.specs.Words.{plain_at, ids_at, run_at, deletion_at, addition_at};
-ghost use Rattle.lrat.specs.Bytes.{DuringLine, BeforeLine, zeros, formula_in};
-ghost use Rattle.lrat.specs.State.{deleted, delete_all, Ready};
-ghost use Rattle.lrat.specs.Check.{leaves, stopped, step_of, line_step, lines_of};
+//
+// The added pairs and the values are lent by a `&mut` of their own beside what only reads. A struct of both would be no plainer: what
+// changes the pairs does not change the values.
+ghost use Rattle.std.specs.Prelude.{◌≡◌, ◌+◌, ◌≤◌, length};
+ghost use Rattle.lrat.specs.Words.{ids_at, deletion_at, addition_at};
+ghost use Rattle.lrat.specs.Bytes.{last_stamp, DuringLine, BeforeLine, zeros, formula_in};
+ghost use Rattle.lrat.specs.State.{delete_all, AddedInText};
+ghost use Rattle.lrat.specs.Check.{step_of, line_step, lines_of};
+ghost use Rattle.lrat.specs.Results.{Leaves, Deletes, Ends};
 
-use crate::{clause, hints, literals};
-use lrat::Step;
+use crate::clause::{Clauses, Store};
+use crate::{literals, words};
+use lrat::{Checked, Step};
+use refusal::Refusal;
 
-// What a line is where the check ends with it.
-fn stop(code: u8, a: usize) -> Step
-    ensures { result ≡ stopped code a }
-{
-    Step {
-        code: code,
-        a: a,
-        next: 0,
-    }
-}
-
-// Where the ids of a deletion end, from the space before the first on: the place after their 0; 0 where they have not the form.
-fn ids_end(text: &[u8], at: usize) -> usize
-    ensures { result ≡ (run_at plain_at text.now at).next }
+// Deletes the clauses of the ids after the place at, left to right, up to one that does not stand.
+fn delete(store: Store, at: usize, a: usize, added: &mut [u32]) -> Result<(), Refusal>
+    requires { (at ≤ length store.text.now) × AddedInText store.text.now a added.old (store.variables + 1) }
+    ensures { Deletes (delete_all store.entry.count a added.old (ids_at store.entry.text.now at)) result added.new }
 {
     let mut p = at;
-    loop {
-        if numeral::byte(text, p) != b' ' {
-            return 0;
-        }
-        let w = numeral::number(text, p + 1, 0);
-        if w.next == 0 {
-            return 0;
-        }
-        if w.value == 0 {
-            return w.next;
-        }
-        p = w.next;
-    }
-}
-
-// Deletes the clauses of the ids after the place at, left to right: GOES_ON, or 19 at one that does not stand.
-fn delete(text: &[u8], at: usize, clauses: usize, a: usize, added: &mut [u32]) -> u8
-    requires { (at ≤ length text.now) × (2 * a ≤ length added.old) }
-    ensures { deleted result added.new ≡ delete_all clauses a added.old (ids_at text.now at) }
-{
-    let mut p = at;
-    loop {
-        let w = numeral::number(text, p + 1, 0);
-        let x = w.value;
+    // no counted index: a word says where the next one starts, and the 0 ends them
+    while let Some(id) = numeral::number(store.text, p + 1, false) {
+        let x = id.value;
         if x == 0 {
-            return lrat::GOES_ON;
+            return Ok(());
         }
-        if clause::stands(x, clauses, a, added) {
-            if clauses < x {
-                added[2 * (x - clauses - 1) + 1] = 0;
-            }
-            p = w.next;
-        } else {
-            return 19;
+        if !(Clauses { store, added, a }).stands(x) {
+            return Err(Refusal::NotStanding);
         }
+        if store.count < x {
+            added[2 * (x - store.count - 1) + 1] = 0;
+        }
+        p = id.next;
     }
+    Ok(())
 }
 
 // A deletion whose ids start after the place at.
-fn deletion(
-    text: &[u8],
-    at: usize,
-    literals: &[i32],
-    pairs: &[u32],
-    clauses: usize,
-    variables: usize,
-    a: usize,
-    added: &mut [u32],
-) -> Step
-    requires { 2 * a ≤ length added.old }
-    ensures { leaves result added.new ≡ step_of (formula_in clauses literals.now pairs.now) text.now variables a added.old (deletion_at text.now at) }
+fn deletion(store: Store, at: usize, a: usize, added: &mut [u32]) -> Result<Option<Step>, Refusal>
+    requires { AddedInText store.text.now a added.old (store.variables + 1) }
+    ensures { Leaves (step_of (formula_in store.entry.count store.entry.literals.now store.entry.pairs.now)
+        store.entry.text.now store.entry.variables a added.old (deletion_at store.entry.text.now at)) result added.new }
 {
-    let newline = ids_end(text, at);
-    if newline == 0 {
-        return stop(16, a);
+    let Some(newline) = words::end(store.text, at) else {
+        return Err(Refusal::LineForm);
+    };
+    if numeral::byte(store.text, newline) != b'\n' {
+        return Err(Refusal::LineForm);
     }
-    if numeral::byte(text, newline) != 10 {
-        return stop(16, a);
-    }
-    let code = delete(text, at, clauses, a, added);
-    Step {
-        code: code,
-        a: a,
+    delete(store, at, a, added)?;
+    Ok(Some(Step {
+        a,
         next: newline + 1,
-    }
+    }))
 }
 
-// An addition whose literals start after the place at.
+// An addition whose literals start after the place at; none after the empty clause.
 fn addition(
-    text: &[u8],
+    store: Store,
     id: usize,
     at: usize,
-    literals: &[i32],
-    pairs: &[u32],
-    clauses: usize,
-    variables: usize,
     a: usize,
     added: &mut [u32],
     values: &mut [u8],
     stamp: u8,
-) -> Step
-    requires values_len { length values.old ≡ variables + 1 }
-    requires ready { Ready clauses literals.now pairs.now text.now a added.old stamp (variables + 1) }
+) -> Result<Option<Step>, Refusal>
+    requires values_len { (length values.old ≡ store.variables + 1) × (stamp ≤ last_stamp) }
+    requires additions { AddedInText store.text.now a added.old (store.variables + 1) }
     requires before_line { BeforeLine stamp values.old }
-    ensures step { leaves result added.new ≡ step_of (formula_in clauses literals.now pairs.now) text.now variables a added.old (addition_at text.now id at) }
+    ensures step { Leaves (step_of (formula_in store.entry.count store.entry.literals.now store.entry.pairs.now)
+        store.entry.text.now store.entry.variables a added.old (addition_at store.entry.text.now id at)) result added.new }
     ensures bytes { DuringLine stamp values.new }
 {
-    let ls = literals::set_false(text, at, variables, values, stamp);
-    let hints_at = ls.next;
-    if hints_at == 0 {
-        return stop(16, a);
+    let Some(literals) = literals::set_false(store.text, at, store.variables, values, stamp) else {
+        return Err(Refusal::LineForm);
+    };
+    let Some(hints) = (Clauses { store, added, a }).hints(literals.next, values, stamp) else {
+        return Err(Refusal::LineForm);
+    };
+    let newline = hints.next;
+    let outcome = hints.outcome;
+    if numeral::byte(store.text, newline) != b'\n' {
+        return Err(Refusal::LineForm);
     }
-    let hs = hints::hints(
-        text, hints_at, literals, pairs, clauses, a, added, values, stamp,
-    );
-    let newline = hs.next;
-    if newline == 0 {
-        return stop(16, a);
+    if id != store.count + a + 1 {
+        return Err(Refusal::LineId);
     }
-    if numeral::byte(text, newline) != 10 {
-        return stop(16, a);
+    if !literals.good {
+        return Err(Refusal::LineLiteral);
     }
-    if id != clauses + a + 1 {
-        return stop(17, a);
+    let end = literals.end;
+    let empty = end == at;
+    if !empty && added.len() < 2 * a + 2 {
+        return Err(Refusal::AddedShort);
     }
-    if ls.good {
-        let end = ls.end;
-        let code = hs.code;
-        if end == at {
-            if code == lrat::CONFLICT {
-                return stop(lrat::NONE, a);
-            }
-            return stop(code, a);
-        }
-        if added.len() < 2 * a + 2 {
-            return stop(22, a);
-        }
-        if code != lrat::CONFLICT {
-            return stop(code, a);
-        }
-        added[2 * a] = (at + 1) as u32;
-        added[2 * a + 1] = (end - (at + 1)) as u32;
-        return Step {
-            code: lrat::GOES_ON,
-            a: a + 1,
-            next: newline + 1,
-        };
+    outcome?;
+    if empty {
+        return Ok(None);
     }
-    stop(18, a)
+    added[2 * a] = (at + 1) as u32;
+    added[2 * a + 1] = (end - (at + 1)) as u32;
+    Ok(Some(Step {
+        a: a + 1,
+        next: newline + 1,
+    }))
 }
 
-// The line at a place.
+// The line at a place; none after the empty clause.
 fn line(
-    text: &[u8],
+    store: Store,
     at: usize,
-    literals: &[i32],
-    pairs: &[u32],
-    clauses: usize,
-    variables: usize,
     a: usize,
     added: &mut [u32],
     values: &mut [u8],
     stamp: u8,
-) -> Step
-    requires values_len { length values.old ≡ variables + 1 }
-    requires ready { Ready clauses literals.now pairs.now text.now a added.old stamp (variables + 1) }
+) -> Result<Option<Step>, Refusal>
+    requires values_len { (length values.old ≡ store.variables + 1) × (stamp ≤ last_stamp) }
+    requires additions { AddedInText store.text.now a added.old (store.variables + 1) }
     requires before_line { BeforeLine stamp values.old }
-    ensures step { leaves result added.new ≡ line_step (formula_in clauses literals.now pairs.now) text.now variables a added.old at }
+    ensures step { Leaves (line_step (formula_in store.entry.count store.entry.literals.now store.entry.pairs.now)
+        store.entry.text.now store.entry.variables a added.old at) result added.new }
     ensures bytes { DuringLine stamp values.new }
 {
-    let w = numeral::number(text, at, 0);
-    let p = w.next;
-    if p == 0 {
-        return stop(16, a);
+    let Some(id) = numeral::number(store.text, at, false) else {
+        return Err(Refusal::LineForm);
+    };
+    let next = id.next;
+    if numeral::byte(store.text, next) != b' ' {
+        return Err(Refusal::LineForm);
     }
-    if numeral::byte(text, p) != b' ' {
-        return stop(16, a);
+    if numeral::byte(store.text, next + 1) == b'd' {
+        return deletion(store, next + 2, a, added);
     }
-    if numeral::byte(text, p + 1) == b'd' {
-        return deletion(text, p + 2, literals, pairs, clauses, variables, a, added);
-    }
-    addition(
-        text, w.value, p, literals, pairs, clauses, variables, a, added, values, stamp,
-    )
+    addition(store, id.value, next, a, added, values, stamp)
 }
 
-// Makes every value unset.
-fn clear(values: &mut [u8])
-    ensures { values.new ≡ zeros (length values.old) }
+// The lines of the text from the first on, over values that are cleared.
+fn follow(store: Store, added: &mut [u32], values: &mut [u8]) -> Checked
+    requires values_len { length values.old ≡ store.variables + 1 }
+    requires before_line { BeforeLine 1 values.old }
+    ensures { Ends (lines_of (formula_in store.entry.count store.entry.literals.now store.entry.pairs.now)
+        store.entry.text.now store.entry.variables added.old) result added.new }
 {
-    let mut i: usize = 0;
-    while i < values.len() {
-        values[i] = 0;
-        i += 1;
-    }
-}
-
-// The lines of the text: NONE or 16 to 23, and the number of added pairs.
-pub(crate) fn lines(
-    text: &[u8],
-    literals: &[i32],
-    pairs: &[u32],
-    clauses: usize,
-    variables: usize,
-    added: &mut [u32],
-    values: &mut [u8],
-) -> Step
-    requires values_len { length values.old ≡ variables + 1 }
-    requires ready { Ready clauses literals.now pairs.now text.now 0 added.old 1 (variables + 1) }
-    ensures step { leaves result added.new ≡ lines_of (formula_in clauses literals.now pairs.now) text.now variables added.old }
-    ensures bytes { values.new ≡ zeros (variables + 1) }
-    ensures few { result.a ≤ length text.now }
-{
-    clear(values);
-    let mut at: usize = 0;
-    let mut a: usize = 0;
-    let mut stamp: u8 = 1;
-    while at < text.len() {
-        let s = line(
-            text, at, literals, pairs, clauses, variables, a, added, values, stamp,
-        );
-        a = s.a;
-        if s.code != lrat::GOES_ON {
-            clear(values);
-            return stop(s.code, a);
+    let mut at = 0;
+    let mut a = 0;
+    let mut stamp = 1;
+    // no counted index: a line says where the next one starts
+    while at < store.text.len() {
+        match line(store, at, a, added, values, stamp) {
+            Ok(Some(step)) => {
+                a = step.a;
+                at = step.next;
+            }
+            Ok(None) => {
+                return Checked {
+                    outcome: Ok(()),
+                    count: a as u32,
+                };
+            }
+            Err(refusal) => {
+                return Checked {
+                    outcome: Err(refusal),
+                    count: a as u32,
+                };
+            }
         }
-        at = s.next;
         if lrat::LAST_STAMP < stamp + 2 {
-            clear(values);
+            values.fill(0);
             stamp = 1;
         } else {
             stamp += 2;
         }
     }
-    clear(values);
-    stop(23, a)
+    Checked {
+        outcome: Err(Refusal::TextEnds),
+        count: a as u32,
+    }
+}
+
+// The lines of the text: what they end in, and the number of added pairs. The values are cleared before and after.
+pub(crate) fn lines(store: Store, added: &mut [u32], values: &mut [u8]) -> Checked
+    requires values_len { length values.old ≡ store.variables + 1 }
+    ensures lines { Ends (lines_of (formula_in store.entry.count store.entry.literals.now store.entry.pairs.now)
+        store.entry.text.now store.entry.variables added.old) result added.new }
+    ensures bytes { values.new ≡ zeros (store.entry.variables + 1) }
+{
+    values.fill(0);
+    let checked = follow(store, added, values);
+    values.fill(0);
+    checked
 }

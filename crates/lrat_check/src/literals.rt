@@ -1,57 +1,43 @@
 // The literals of a line, set false while their form is read. Decided here: whether one is outside ±V or a variable stands twice,
 // which is 18.
-ghost use Rattle.std.specs.Prelude.{◌≡◌, ◌+◌, ◌≤◌, length};
+ghost use Rattle.std.specs.Prelude.{◌≡◌, ◌+◌, ◌≤◌, length, IfSome};
 ghost use Rattle.lrat.specs.Bytes.{last_stamp, BeforeLine, AfterLiterals};
+ghost use Rattle.lrat.specs.Results.{literals_read};
 
 use lrat::LiteralsRead;
 
-// Sets each literal of a line false while their form is read, from the space before the first on.
+// Sets each literal of a line false while their form is read, from the space before the first on; none where they have not the form.
+// The values and their stamp are two parameters here and in the hints, where the values change. A struct of them would be no plainer:
+// before a line the bytes have not yet what the ghost field of `Values` says.
 pub(crate) fn set_false(
     text: &[u8],
     at: usize,
     variables: usize,
     values: &mut [u8],
     stamp: u8,
-) -> LiteralsRead
+) -> Option<LiteralsRead>
     requires values_len { (length values.old ≡ variables + 1) × (stamp ≤ last_stamp) }
     requires before_line { BeforeLine stamp values.old }
-    ensures { AfterLiterals stamp variables text.now at result values.new }
+    ensures read { AfterLiterals stamp variables text.now at (literals_read result) values.new }
+    ensures there { IfSome result (λ r. r.next ≡ 0 → ⊥) }
 {
-    let mut p = at;
+    let mut end = at;
     let mut good = true;
+    // no counted index: a word says where the next one starts, and the 0 ends them
     loop {
-        if numeral::byte(text, p) != b' ' {
-            return LiteralsRead {
-                end: 0,
-                next: 0,
-                good: false,
-            };
+        if numeral::byte(text, end) != b' ' {
+            return None;
         }
-        let w = numeral::literal(text, p + 1);
-        if w.next == 0 {
-            return LiteralsRead {
-                end: 0,
-                next: 0,
-                good: false,
-            };
+        let literal = numeral::literal(text, end + 1)?;
+        let next = literal.next;
+        if literal.value == 0 {
+            return Some(LiteralsRead { end, next, good });
         }
-        let v = w.value;
-        if v == 0 {
-            return LiteralsRead {
-                end: p,
-                next: w.next,
-                good: good,
-            };
-        }
-        if variables < v {
+        if variables < literal.value || stamp <= values[literal.value] {
             good = false;
         } else {
-            if stamp <= values[v] {
-                good = false;
-            } else {
-                values[v] = stamp + w.minus;
-            }
+            values[literal.value] = stamp + u8::from(literal.minus);
         }
-        p = w.next;
+        end = next;
     }
 }

@@ -1,6 +1,10 @@
 -- Laws of the tests that checking a network makes: one for each answer of a test, that the two searches read only the r switches
 -- and the 2r + 2 labels of a network, and one for each answer of checking. Assumes nothing.
-use Rattle.std.specs.Prelude.{◌≡◌, leb, ltb, get_or}
+use Rattle.std.specs.Prelude.{◌≡◌, leb, ltb, get_or, Some, None, Ok, Err}
+use Rattle.refusal.specs.Refusal.{number}
+use Rattle.refusal.specs.Refusal.Laws.{numbered_number, number_some}
+use Rattle.refusal.specs.declared.Refusal.{Refusal}
+use Rattle.refusal.specs.declared.Refusal.TheVariants.{NetworkForm}
 use Rattle.std.proofs.Math.Path.{refl, sym, ap, ap₂, subst}
 use Rattle.std.proofs.Common.{◌∙◌, add-one, lt→ltb, le→leb, ltb→lt, get_or-take}
 use Rattle.std.proofs.Math.Bool.{Bool, true, false, not, ◌&&◌, ◌||◌}
@@ -21,7 +25,6 @@ use Rattle.network.specs.Networks.{terminals, source, sink, switch_of, other, cl
 use Rattle.network.specs.Check.{label_in, at_sink, leads, touching, nearer, near, move, part, apart, right_if, row_right, literals_low, labels_lowest, fitting, first_wrong, rows_answer, checked_of}
 use Rattle.network.specs.Value.{listed}
 use Rattle.network.specs.declared.Network.{Network}
-use Rattle.network.specs.declared.Checked.TheVariants.{Does, Wrong, Refused}
 
 -- a false test makes a conjunction false, from either side
 and_first : (a b : Bool) → a ≡ false → a && b ≡ false
@@ -279,7 +282,7 @@ module _ (q : Request) (w : Network) where
 
   -- the lowest wrong row
   pub rows_wrong : (k : ℕ) (b : Bool) → k < 2 ^ q.n → b ≡ right_at k → b ≡ false → ((j : ℕ) → j < k → right_at j ≡ true)
-      → Wrong k ≡ rows_answer q w
+      → Some k ≡ rows_answer q w
   unfolding rows_answer first_wrong
   rows_wrong k b h g e f =
       let first : first_wrong q w ≡ k =
@@ -289,7 +292,7 @@ module _ (q : Request) (w : Network) where
       sym (rw (first, lt-ltb k (2 ^ q.n) h))
 
   -- no wrong row
-  pub rows_right : ((j : ℕ) → j < 2 ^ q.n → right_at j ≡ true) → Does ≡ rows_answer q w
+  pub rows_right : ((j : ℕ) → j < 2 ^ q.n → right_at j ≡ true) → None ≡ rows_answer q w
   unfolding rows_answer first_wrong
   rows_right f =
       let first : first_wrong q w ≡ 2 ^ q.n =
@@ -299,29 +302,29 @@ module _ (q : Request) (w : Network) where
       sym (rw (first, le-ltb (2 ^ q.n) (2 ^ q.n) (let z : 2 ^ q.n ≤ 2 ^ q.n = omega arith in z)))
 
   -- a request that is refused
-  pub checked_refused : (x : ℕ) → x ≡ refusal_of q → (x ≡ 0 → ⊥) → Refused x ≡ checked_of q w
+  pub checked_refused : (e : Refusal) → number e ≡ refusal_of q → Err e ≡ checked_of q w
   unfolding checked_of
-  checked_refused x e h = sym (rw (← e, ne_eqb x 0 h))
+  checked_refused e h = sym (rw (← h, ne_eqb (number e) 0 (number_some e), numbered_number e))
 
   -- a network that has not the form
-  form_not : refusal_of q ≡ 0 → fitting q w ≡ false → Refused 13 ≡ checked_of q w
+  pub form_not : refusal_of q ≡ 0 → fitting q w ≡ false → Err NetworkForm ≡ checked_of q w
   unfolding checked_of
   form_not g e = sym (rw (g, e))
 
   -- another number of switches
-  pub checked_size : refusal_of q ≡ 0 → (w.r ≡ q.r → ⊥) → Refused 13 ≡ checked_of q w
+  pub checked_size : refusal_of q ≡ 0 → (w.r ≡ q.r → ⊥) → Err NetworkForm ≡ checked_of q w
   unfolding fitting
   checked_size g h = form_not g (and_first _ _ (ne_eqb w.r q.r h))
 
   -- a literal out of range
   pub checked_literals : refusal_of q ≡ 0 → (b : Bool) → b ≡ literals_low q.n q.r (label_in w.literals) → b ≡ false
-      → Refused 13 ≡ checked_of q w
+      → Err NetworkForm ≡ checked_of q w
   unfolding fitting
   checked_literals g b h e = form_not g (and_second (eqb w.r q.r) _ (and_first _ _ (sym h ∙ e)))
 
   -- a label that is not the lowest terminal of its net
   pub checked_labels : refusal_of q ≡ 0 → (b : Bool) → b ≡ labels_lowest q.r (label_in w.labels) → b ≡ false
-      → Refused 13 ≡ checked_of q w
+      → Err NetworkForm ≡ checked_of q w
   unfolding fitting
   checked_labels g b h e =
       form_not g (and_second (eqb w.r q.r) _ (and_second (literals_low q.n q.r (label_in w.literals)) _ (sym h ∙ e)))
@@ -333,6 +336,6 @@ module _ (q : Request) (w : Network) where
   form_right e a f g b h i = rw (eq-eqb w.r q.r e, ← f, g, ← h, i)
 
   -- it is answered by its rows
-  pub checked_rows : refusal_of q ≡ 0 → fitting q w ≡ true → rows_answer q w ≡ checked_of q w
+  pub checked_rows : refusal_of q ≡ 0 → fitting q w ≡ true → Ok (rows_answer q w) ≡ checked_of q w
   unfolding checked_of
   checked_rows g e = sym (rw (g, e))

@@ -1,7 +1,7 @@
 -- The tests that checking a network makes decide whether it does the job. An on row: the search from the sink finds a terminal
 -- exactly when a walk that short leads there. An off row: two terminals are in one part exactly when a walk joins them.
 -- Assumes nothing.
-use Rattle.std.specs.Prelude.{◌≡◌, refl, true, false, ◌&&◌, cond, ◌⊎◌, eqb, leb, get_or}
+use Rattle.std.specs.Prelude.{◌≡◌, refl, Some, None, Ok, Err, true, false, ◌&&◌, cond, ◌⊎◌, eqb, leb, get_or}
 use Rattle.std.proofs.Math.Path.{sym, ap, subst}
 use Rattle.std.proofs.Common.{◌∙◌, inl, inr, le-ltb, ltb-false, le→leb}
 use Rattle.std.proofs.Math.Bool.{Bool, not}
@@ -15,6 +15,9 @@ use Rattle.std.proofs.Math.Seq.{get_or-take, length-take-le}
 use Rattle.prelude.specs.Tests.{T-cases, T_of, F-eq, and_in, and_l, and_r, or_l, or_r, or_cases, eq→eqb, ne→neqb, neqb→ne, eq?, cond-true, cond-false}
 use Rattle.prelude.specs.Lists.{any_from, first_of}
 use Rattle.prelude.specs.Lists.Laws.{any_out, any_in, all_out, all_in, first_is, first_none, first_before, first_holds, each_in, each_out}
+use Rattle.refusal.specs.Refusal.{numbered}
+use Rattle.refusal.specs.declared.Refusal.{Refusal}
+use Rattle.refusal.specs.declared.Refusal.TheVariants.{NetworkForm}
 use Rattle.request.specs.Numbers.{switches_most, Good, refusal_of}
 use Rattle.request.proofs.NumbersLaws.{refusal_good, good_refusal}
 use Rattle.rows.specs.Rows.{Row, row_at, rows_of}
@@ -24,12 +27,10 @@ use Rattle.rows.proofs.RowsLaws.{rows_length, rows_at}
 use Rattle.request.specs.declared.Request.{Request}
 use Rattle.network.specs.Networks.{terminals, Net, source, sink, switch_of, other, literal_at, label_at, closed_on, Walk, DoneIf, Done, DoesAll}
 use Rattle.network.proofs.NetworksLaws.{walk_append}
-use Rattle.network.specs.Check.{at_sink, leads, touching, nearer, near, move, part, apart, right_if, row_right, label_in, literals_low, labels_lowest, fitting, first_wrong, rows_answer, checked_of}
+use Rattle.network.specs.Check.{at_sink, leads, touching, nearer, near, move, part, apart, right_if, row_right, label_in, literals_low, labels_lowest, fitting, first_wrong, rows_answer, Checked, checked_of}
 use Rattle.network.specs.Value.{terminals_most, listed}
 use Rattle.network.specs.Meaning.{Accepted, LowestWrong, Means}
 use Rattle.network.specs.declared.Network.{Network}
-use Rattle.network.specs.declared.Checked.{Checked}
-use Rattle.network.specs.declared.Checked.TheVariants.{Does as does, Wrong, Refused}
 
 -- the two ends of a switch that is merged are in one part
 move_ends : (t : Bool) (p q : ℕ) → T t → move t p q p ≡ move t p q q
@@ -172,40 +173,41 @@ not_not_in true t = tt
 not_not_in false t = t
 
 -- the answer by its three tests, and back
-does_view : (a b c : Bool) (k x : ℕ) → cond a (cond b (cond c (Wrong k) does) (Refused 13)) (Refused x) ≡ does → T a × T b × T (not c)
-does_view false b c k x e = absurd (let z : ◌≡◌ {A = ℕ} 0 1 = cc in omega arith)
-does_view true false c k x e = absurd (let z : ◌≡◌ {A = ℕ} 0 1 = cc in omega arith)
-does_view true true true k x e = absurd (let z : ◌≡◌ {A = ℕ} 0 1 = cc in omega arith)
+abbrev answer : (a b c : Bool) (k x : ℕ) → Checked
+answer a b c k x = cond a (cond b (Ok (cond c (Some k) None)) (Err NetworkForm)) (Err (numbered x))
+
+does_view : (a b c : Bool) (k x : ℕ) → answer a b c k x ≡ Ok None → T a × T b × T (not c)
+does_view false b c k x e = cc
+does_view true false c k x e = cc
+does_view true true true k x e = cc
 does_view true true false k x e = (tt, tt, tt)
 
-does_back : (a b c : Bool) (k x : ℕ) → T a → T b → T (not c) → cond a (cond b (cond c (Wrong k) does) (Refused 13)) (Refused x) ≡ does
+does_back : (a b c : Bool) (k x : ℕ) → T a → T b → T (not c) → answer a b c k x ≡ Ok None
 does_back false b c k x p q s = absurd p
 does_back true false c k x p q s = absurd q
 does_back true true true k x p q s = absurd s
 does_back true true false k x p q s = refl
 
-wrong_view : (a b c : Bool) (k x j : ℕ) → cond a (cond b (cond c (Wrong k) does) (Refused 13)) (Refused x) ≡ Wrong j → T a × T b × T c × (k ≡ j)
-wrong_view false b c k x j e = absurd (let z : ◌≡◌ {A = ℕ} 0 1 = cc in omega arith)
-wrong_view true false c k x j e = absurd (let z : ◌≡◌ {A = ℕ} 0 1 = cc in omega arith)
-wrong_view true true true k x j e = (tt, tt, tt, cc)
-wrong_view true true false k x j e = absurd (let z : ◌≡◌ {A = ℕ} 0 1 = cc in omega arith)
+wrong_view : (a b c : Bool) (k x j : ℕ) → answer a b c k x ≡ Ok (Some j) → T a × T b × T c × (k ≡ j)
+wrong_view false b c k x j e = cc
+wrong_view true false c k x j e = cc
+wrong_view true true true k x j e = (tt, tt, tt, (cc))
+wrong_view true true false k x j e = cc
 
-wrong_back : (a b c : Bool) (k x j : ℕ) → T a → T b → T c → k ≡ j → cond a (cond b (cond c (Wrong k) does) (Refused 13)) (Refused x) ≡ Wrong j
+wrong_back : (a b c : Bool) (k x j : ℕ) → T a → T b → T c → k ≡ j → answer a b c k x ≡ Ok (Some j)
 wrong_back false b c k x j p q s e = absurd p
 wrong_back true false c k x j p q s e = absurd q
-wrong_back true true true k x j p q s e = ap Wrong e
+wrong_back true true true k x j p q s e = ap (λ (n : ℕ). Ok (Some n)) e
 wrong_back true true false k x j p q s e = absurd s
 
-refused_view : (a b c : Bool) (k x j : ℕ) → cond a (cond b (cond c (Wrong k) does) (Refused 13)) (Refused x) ≡ Refused j → T a → T b → ⊥
-refused_view false b c k x j e p q = p
-refused_view true false c k x j e p q = q
-refused_view true true true k x j e p q = let z : ◌≡◌ {A = ℕ} 0 1 = cc in omega arith
-refused_view true true false k x j e p q = let z : ◌≡◌ {A = ℕ} 0 1 = cc in omega arith
+refused_view : (a b c : Bool) (k x : ℕ) (r : Refusal) → answer a b c k x ≡ Err r → T a → T b → ⊥
+refused_view false b c k x r e p q = p
+refused_view true false c k x r e p q = q
+refused_view true true c k x r e p q = cc
 
-refused_back : (a b c : Bool) (k x : ℕ) → (T a → T b → ⊥)
-    → (j : ℕ) × (cond a (cond b (cond c (Wrong k) does) (Refused 13)) (Refused x) ≡ Refused j)
-refused_back false b c k x n = (x, refl)
-refused_back true false c k x n = (13, refl)
+refused_back : (a b c : Bool) (k x : ℕ) → (T a → T b → ⊥) → (r : Refusal) × (answer a b c k x ≡ Err r)
+refused_back false b c k x n = (numbered x, refl)
+refused_back true false c k x n = (NetworkForm, refl)
 refused_back true true c k x n = absurd (n tt tt)
 
 module _ (q : Request) (w : Network) where
@@ -375,8 +377,8 @@ module _ (q : Request) (w : Network) where
               (accepted_fitting p.0) (lt→ltb (first_wrong q w) (2 ^ q.n) (subst (λ (x : ℕ). x < 2 ^ q.n) (sym f) h)) f,
         );
         refused = (
-          λ (k, e) a.
-              refused_view unrefused (fitting q w) c (first_wrong q w) (refusal_of q) k e
+          λ (x, e) a.
+              refused_view unrefused (fitting q w) c (first_wrong q w) (refusal_of q) x e
               (eq→eqb (refusal_of q) 0 (good_refusal q a.good)) (accepted_fitting a),
           λ n.
               refused_back unrefused (fitting q w) c (first_wrong q w) (refusal_of q)
@@ -384,9 +386,9 @@ module _ (q : Request) (w : Network) where
         );
       }
 
--- what an answer means fixes it, but for the number of a refusal
+-- what an answer means fixes it, but for which refusal
 pub means_one : (q : Request) (w : Network) (x y : Checked) → Means q w x → Means q w y
-    → (x ≡ y) ⊎ (((j : ℕ) × (x ≡ Refused j)) × ((k : ℕ) × (y ≡ Refused k)))
-means_one q w does y a b = inl (sym (b.does.1 (a.does.0 refl)))
-means_one q w (Wrong k) y a b = inl (sym ((b.wrong k).1 ((a.wrong k).0 refl)))
-means_one q w (Refused k) y a b = inr ((k, refl), b.refused.1 (a.refused.0 (k, refl)))
+    → (x ≡ y) ⊎ (((e : Refusal) × (x ≡ Err e)) × ((e : Refusal) × (y ≡ Err e)))
+means_one q w (Ok None) y a b = inl (sym (b.does.1 (a.does.0 refl)))
+means_one q w (Ok (Some k)) y a b = inl (sym ((b.wrong k).1 ((a.wrong k).0 refl)))
+means_one q w (Err e) y a b = inr ((e, refl), b.refused.1 (a.refused.0 (e, refl)))

@@ -1,6 +1,9 @@
 -- The tests that checking a network makes, and its answer. Assumes nothing.
-use Rattle.std.specs.Prelude.{Bool, true, false, not, ◌&&◌, ◌||◌, cond, List, [], ◌∷◌, ℕ, zero, suc, ◌+◌, ◌*◌, ◌^◌, eqb, leb, ltb, get_or}
+use Rattle.std.specs.Prelude.{Bool, true, false, not, ◌&&◌, ◌||◌, cond, List, [], ◌∷◌, ℕ, zero, suc, ◌+◌, ◌*◌, ◌^◌, eqb, leb, ltb, get_or, Option, Some, None, Result, Ok, Err}
 use Rattle.prelude.specs.Lists.{any_from, all_from, first_of}
+use Rattle.refusal.specs.Refusal.{number, numbered}
+use Rattle.refusal.specs.declared.Refusal.{Refusal}
+use Rattle.refusal.specs.declared.Refusal.TheVariants.{NetworkForm}
 use Rattle.request.specs.Numbers.{refusal_of}
 use Rattle.rows.specs.Rows.{Row, rows_of}
 use Rattle.rows.specs.declared.Kind.{Kind}
@@ -9,20 +12,22 @@ use Rattle.request.specs.declared.Request.{Request}
 use Rattle.network.specs.Networks.{terminals, Net, source, sink, switch_of, other, closed_on, label_at}
 use Rattle.network.specs.Value.{listed}
 use Rattle.network.specs.declared.Network.{Network}
-use Rattle.network.specs.declared.Checked.{Checked}
-use Rattle.network.specs.declared.Checked.TheVariants.{Does, Wrong, Refused}
+
+-- what checking a network answers: no row, where it does the job, or the lowest wrong row; or a refusal
+abbrev pub Checked : Type 0
+Checked = Result (Option ℕ) Refusal
 
 -- document 01's number of an answer, 0 where it is not a refusal
 abbrev pub number_of : Checked → ℕ
-number_of Does = 0
-number_of (Wrong k) = 0
-number_of (Refused x) = x
+number_of (Ok None) = 0
+number_of (Ok (Some k)) = 0
+number_of (Err e) = number e
 
 -- and its values: the lowest wrong row, where there is one
 abbrev pub values_of : Checked → List ℕ
-values_of Does = []
-values_of (Wrong k) = k ∷ []
-values_of (Refused x) = []
+values_of (Ok None) = []
+values_of (Ok (Some k)) = k ∷ []
+values_of (Err e) = []
 
 -- an array's entries by index
 abbrev pub shut_at : List Bool → ℕ → Bool
@@ -96,8 +101,8 @@ unfoldable pub first_wrong : Request → Network → ℕ
 first_wrong q w = first_of (λ row. not (row_right q.r q.m (listed q.r w) row)) (rows_of q)
 
 -- "Otherwise \"does\", or the lowest wrong row"
-unfoldable pub rows_answer : Request → Network → Checked
-rows_answer q w = cond (ltb (first_wrong q w) (2 ^ q.n)) (Wrong (first_wrong q w)) Does
+unfoldable pub rows_answer : Request → Network → Option ℕ
+rows_answer q w = cond (ltb (first_wrong q w) (2 ^ q.n)) (Some (first_wrong q w)) None
 
 -- checking a network in the documents' numbers: those of the request, then 13; 0 where neither applies
 unfoldable pub checked_number : Request → Network → ℕ
@@ -110,4 +115,5 @@ checked_values q w =
 
 -- the same as an answer of the program
 unfoldable pub checked_of : Request → Network → Checked
-checked_of q w = cond (eqb (refusal_of q) 0) (cond (fitting q w) (rows_answer q w) (Refused 13)) (Refused (refusal_of q))
+checked_of q w =
+    cond (eqb (refusal_of q) 0) (cond (fitting q w) (Ok (rows_answer q w)) (Err NetworkForm)) (Err (numbered (refusal_of q)))

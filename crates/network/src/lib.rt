@@ -21,17 +21,9 @@ pub type Literals = [u8; LITERALS];
 // A label for each terminal.
 pub type Labels = [u8; TERMINALS];
 
-#[derive(Clone, Copy)]
+#[derive(Clone, Copy, Debug, PartialEq, Eq)]
 pub struct Network {
     pub r: u8,
     pub literals: Literals,
     pub labels: Labels,
-}
-
-// What checking a network answers: it does the job, the lowest wrong row, or the number of a refusal.
-#[derive(Clone, Copy)]
-pub enum Checked {
-    Does,
-    Wrong(u8),
-    Refused(u8),
 }

@@ -3,7 +3,7 @@
 // file is empty.
 #![tactic(auto)]
 
-ghost use Rattle.std.specs.Prelude.{take, OnOk};
+ghost use Rattle.std.specs.Prelude.{OnOk};
 ghost use Rattle.std.specs.Io.KnownBytes.{Appends};
 ghost use Rattle.reports.specs.Report.{report_text};
 ghost use Rattle.report.specs.Output.{lent_zeros, too_long_text, output_text};
@@ -30,14 +30,6 @@ fn too_long<W: Write>(out: &mut W, name: &str) -> io::Result<()>
     writeln!(out, "too long {name}")
 }
 
-// Writes the first bytes of a buffer.
-fn send<W: Write>(out: &mut W, buffer: &[u8], count: usize) -> io::Result<()>
-    ensures { OnOk result (Appends (W.contents out.old) (W.contents out.new) (take count buffer.now)) }
-{
-    let end = count.min(buffer.len());
-    out.write_all(&buffer[..end])
-}
-
 // Settles with the slices that the program lends, and writes the text.
 fn settle<W: Write>(out: &mut W, request: &[u8], answer: &[u8], refutation: &[u8]) -> io::Result<()>
     ensures { OnOk result (Appends (W.contents out.old) (W.contents out.new) (report_text request.now answer.now refutation.now lent_zeros)) }
@@ -55,8 +47,7 @@ fn settle<W: Write>(out: &mut W, request: &[u8], answer: &[u8], refutation: &[u8
         &mut added,
         &mut values,
     );
-    let bytes = text.bytes;
-    send(out, &bytes, text.count)
+    out.write_all(text.as_slice())
 }
 
 // Settles from three files, or names the first that is too long.

@@ -1,11 +1,11 @@
 -- The report by the request's reading and the verdict. Assumes nothing.
-use Rattle.std.specs.Prelude.{◌≡◌, List, ℕ}
+use Rattle.std.specs.Prelude.{◌≡◌, List, ℕ, Ok, Err}
 use Rattle.std.proofs.Common.{sym, ◌∙◌}
 use Rattle.std.proofs.Math.Path.{ap}
-use Rattle.request.specs.declared.Reading.{Reading}
-use Rattle.request.specs.declared.Reading.TheVariants.{Taken, Refused as request_refused}
+use Rattle.refusal.specs.declared.Refusal.{Refusal}
+use Rattle.refusal.specs.Refusal.{number}
 use Rattle.request.specs.declared.Request.{Request}
-use Rattle.request.specs.Line.{request_of}
+use Rattle.request.specs.Line.{Reading, request_of}
 use Rattle.lrat_check.specs.Refutation.{Lent}
 use Rattle.reports.specs.Reports.{refused_text}
 use Rattle.settle.specs.declared.Settlement.{Settlement}
@@ -15,12 +15,12 @@ use Rattle.reports.specs.Report.{verdict_text, read_text, report_text, read_leav
 
 module _ (request answer refutation : List ℕ) (s : Lent) where
   -- a request that is refused
-  pub report_refused : (number : ℕ) → request_refused number ≡ request_of request → refused_text number ≡ report_text request answer refutation s
+  pub report_refused : (f : Refusal) → Err f ≡ request_of request → refused_text (number f) ≡ report_text request answer refutation s
   unfolding report_text
-  report_refused number e = ap (λ (r : Reading). read_text r answer refutation s) e
+  report_refused f e = ap (λ (r : Reading). read_text r answer refutation s) e
 
   -- a request that is settled
-  pub report_settled : (q : Request) → Taken q ≡ request_of request → (x : Settlement) → x ≡ settlement q answer refutation s
+  pub report_settled : (q : Request) → Ok q ≡ request_of request → (x : Settlement) → x ≡ settlement q answer refutation s
       → (v : Verdict) → x.verdict ≡ v → verdict_text q.r x.network v ≡ report_text request answer refutation s
   unfolding report_text
   report_settled q e x f v g =
@@ -28,11 +28,11 @@ module _ (request answer refutation : List ℕ) (s : Lent) where
       ∙ ap (λ (r : Reading). read_text r answer refutation s) e
 
   -- the slices, likewise
-  pub leaves_refused : (number : ℕ) → request_refused number ≡ request_of request → s ≡ report_leaves request answer refutation s
+  pub leaves_refused : (f : Refusal) → Err f ≡ request_of request → s ≡ report_leaves request answer refutation s
   unfolding report_leaves
-  leaves_refused number e = ap (λ (r : Reading). read_leaves r answer refutation s) e
+  leaves_refused f e = ap (λ (r : Reading). read_leaves r answer refutation s) e
 
-  pub leaves_settled : (q : Request) → Taken q ≡ request_of request → (l : Lent) → l ≡ settle_leaves q answer refutation s
+  pub leaves_settled : (q : Request) → Ok q ≡ request_of request → (l : Lent) → l ≡ settle_leaves q answer refutation s
       → l ≡ report_leaves request answer refutation s
   unfolding report_leaves
   leaves_settled q e l f = f ∙ ap (λ (r : Reading). read_leaves r answer refutation s) e

@@ -1,10 +1,9 @@
 -- What a request that was read and settled to "least" prints: the number of switches of the network, which is least. Assumes nothing.
-use Rattle.std.specs.Prelude.{◌≡◌, List, ℕ}
+use Rattle.std.specs.Prelude.{◌≡◌, List, ℕ, Ok, Err}
 use Rattle.std.proofs.Math.Path.{refl}
 use Rattle.std.proofs.Common.{sym, ap, ◌∙◌, arith}
-use Rattle.request.specs.declared.Reading.{Reading}
-use Rattle.request.specs.declared.Reading.TheVariants.{Taken, Refused as request_refused}
-use Rattle.request.specs.Line.{request_of}
+use Rattle.refusal.specs.Refusal.{number}
+use Rattle.request.specs.Line.{Reading, request_of}
 use Rattle.request.specs.declared.Request.{Request}
 use Rattle.network.specs.declared.Network.{Network}
 use Rattle.network.proofs.LeastLaws.{least_unique}
@@ -17,22 +16,22 @@ use Rattle.settle.specs.Settle.Meaning.{least_for}
 use Rattle.reports.specs.Report.{verdict_text, read_text, BeginsLeast, SaysLeast}
 
 -- the text of a refusal begins otherwise
-refused_otherwise : (number : ℕ) → BeginsLeast (refused_text number) → ⊥
+refused_otherwise : (x : ℕ) → BeginsLeast (refused_text x) → ⊥
 unfolding refused_text
-refused_otherwise number b = let z : ◌≡◌ {A = ℕ} 114 108 = cc in omega arith
+refused_otherwise x b = let z : ◌≡◌ {A = ℕ} 114 108 = cc in omega arith
 
 -- and so do those of the other verdicts
 begins_least : (k : ℕ) (w : Network) (v : Verdict) → BeginsLeast (verdict_text k w v) → v ≡ Least
 unfolding works_text fails_text
 begins_least k w Least b = refl
-begins_least k w (Works number) b = absurd (let z : ◌≡◌ {A = ℕ} 119 108 = cc in omega arith)
+begins_least k w (Works e) b = absurd (let z : ◌≡◌ {A = ℕ} 119 108 = cc in omega arith)
 begins_least k w (Fails row) b = absurd (let z : ◌≡◌ {A = ℕ} 102 108 = cc in omega arith)
-begins_least k w (Refused number) b = absurd (refused_otherwise number b)
+begins_least k w (Refused e) b = absurd (refused_otherwise (number e) b)
 
 module _ (request answer refutation : List ℕ) (s : Lent) where
   pub read_least : (r : Reading) → request_of request ≡ r → BeginsLeast (read_text r answer refutation s)
       → SaysLeast request (read_text r answer refutation s)
-  read_least (Taken q) e b =
+  read_least (Ok q) e b =
       let w : Network = (settlement q answer refutation s).network in
       let v = begins_least q.r w (settlement q answer refutation s).verdict b in
       let l = least_for q answer refutation s v in
@@ -43,10 +42,10 @@ module _ (request answer refutation : List ℕ) (s : Lent) where
         text_is = ap (verdict_text q.r w) v ∙ ap (λ (k : ℕ). least_text k w) (sym l.size);
         least = l;
       }
-  read_least (request_refused number) e b = absurd (refused_otherwise number b)
+  read_least (Err f) e b = absurd (refused_otherwise (number f) b)
 
 -- two reports that begin with "least", for requests of one n, table, free rows and M, print one number
-pub says_one : (a b t u : List ℕ) (q p : Request) → request_of a ≡ Taken q → request_of b ≡ Taken p
+pub says_one : (a b t u : List ℕ) (q p : Request) → request_of a ≡ Ok q → request_of b ≡ Ok p
     → q.n ≡ p.n → q.table ≡ p.table → q.free ≡ p.free → q.m ≡ p.m → (s : SaysLeast a t) (v : SaysLeast b u)
     → (k : ℕ) × (t ≡ least_text k s.network) × (u ≡ least_text k v.network)
 says_one a b t u q p e f n table free m s v =

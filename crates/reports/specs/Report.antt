@@ -1,9 +1,8 @@
 -- What the report prints for the bytes of three files. Assumes nothing.
-use Rattle.std.specs.Prelude.{◌≡◌, List, [], ◌∷◌, ℕ, take}
-use Rattle.request.specs.declared.Reading.{Reading}
-use Rattle.request.specs.declared.Reading.TheVariants.{Taken, Refused as request_refused}
+use Rattle.std.specs.Prelude.{◌≡◌, List, [], ◌∷◌, ℕ, take, Ok, Err}
+use Rattle.refusal.specs.Refusal.{number}
 use Rattle.request.specs.declared.Request.{Request}
-use Rattle.request.specs.Line.{request_of}
+use Rattle.request.specs.Line.{Reading, request_of}
 use Rattle.lrat_check.specs.Refutation.{Lent}
 use Rattle.reports.specs.Reports.{refused_text, fails_text, works_text, least_text}
 use Rattle.settle.specs.declared.Verdict.{Verdict}
@@ -16,22 +15,22 @@ use Rattle.network.specs.Least.{LeastFor}
 -- and \"sink c\""
 abbrev pub verdict_text : ℕ → Network → Verdict → List ℕ
 verdict_text k w Least = least_text k w
-verdict_text k w (Works number) = works_text k number w
+verdict_text k w (Works e) = works_text k (number e) w
 verdict_text k w (Fails row) = fails_text k row
-verdict_text k w (Refused number) = refused_text number
+verdict_text k w (Refused e) = refused_text (number e)
 
 -- a request that is read is settled; one that is refused is "refused number" too
 abbrev pub read_text : Reading → List ℕ → List ℕ → Lent → List ℕ
-read_text (Taken q) answer refutation s = verdict_text q.r (settlement q answer refutation s).network (settlement q answer refutation s).verdict
-read_text (request_refused number) answer refutation s = refused_text number
+read_text (Ok q) answer refutation s = verdict_text q.r (settlement q answer refutation s).network (settlement q answer refutation s).verdict
+read_text (Err e) answer refutation s = refused_text (number e)
 
 unfoldable pub report_text : List ℕ → List ℕ → List ℕ → Lent → List ℕ
 report_text request answer refutation s = read_text (request_of request) answer refutation s
 
 -- the slices afterwards: as settling leaves them, and untouched where the request is refused
 abbrev pub read_leaves : Reading → List ℕ → List ℕ → Lent → Lent
-read_leaves (Taken q) answer refutation s = settle_leaves q answer refutation s
-read_leaves (request_refused number) answer refutation s = s
+read_leaves (Ok q) answer refutation s = settle_leaves q answer refutation s
+read_leaves (Err e) answer refutation s = s
 
 unfoldable pub report_leaves : List ℕ → List ℕ → List ℕ → Lent → Lent
 report_leaves request answer refutation s = read_leaves (request_of request) answer refutation s
@@ -44,7 +43,7 @@ BeginsLeast text = take 5 text ≡ 108 ∷ 101 ∷ 97 ∷ 115 ∷ 116 ∷ []
 -- for the request that was read
 pub record SaysLeast (request text : List ℕ) : Type 0 where
   pub asked : Request
-  pub taken : request_of request ≡ Taken asked
+  pub taken : request_of request ≡ Ok asked
   pub network : Network
   pub text_is : text ≡ least_text network.r network
   pub least : LeastFor asked network

@@ -1,6 +1,6 @@
 -- A text held by value: an array of bytes, of which the first count. Assumes nothing.
 use Rattle.std.specs.Prelude.{◌≡◌, List, ◌++◌, ℕ, ◌+◌, ◌≤◌, take}
-use Rattle.reports.specs.declared.Text.{Text}
+use Rattle.reports.specs.declared.buffer.Text.{Text}
 pub mod Laws
 
 -- the bytes of a text

@@ -7,18 +7,12 @@ ghost use Rattle.lrat_check.specs.Refutation.{lent};
 ghost use Rattle.reports.specs.Texts.{shown};
 ghost use Rattle.reports.specs.Report.{report_text, report_leaves, BeginsLeast, SaysLeast};
 
-use request::Reading;
 use settle::Verdict;
 
+pub mod buffer;
 mod texts;
 
-// A text: an array of 160 bytes and how many of them count. The longest has 121: "works 255 255", seven lines "6 255 255 255" and
-// "sink 255", each with its newline.
-#[derive(Clone, Copy)]
-pub struct Text {
-    pub bytes: [u8; 160],
-    pub count: usize,
-}
+pub use buffer::Text;
 
 pub fn report(
     request: &[u8],
@@ -34,15 +28,14 @@ pub fn report(
     ensures least { BeginsLeast (shown result) → SaysLeast request.now (shown result) }
 {
     match request_read::read_request(request) {
-        Reading::Refused(number) => texts::refused_text(number),
-        Reading::Taken(q) => {
+        Err(refusal) => texts::refused_text(refusal),
+        Ok(q) => {
             let settled = settle::settle(q, answer, refutation, literals, pairs, added, values);
-            let verdict = settled.verdict;
-            match verdict {
+            match settled.verdict {
                 Verdict::Least => texts::least_text(q.r, settled.network),
-                Verdict::Works(number) => texts::works_text(q.r, number, settled.network),
+                Verdict::Works(refusal) => texts::works_text(q.r, refusal, settled.network),
                 Verdict::Fails(row) => texts::fails_text(q.r, row),
-                Verdict::Refused(number) => texts::refused_text(number),
+                Verdict::Refused(refusal) => texts::refused_text(refusal),
             }
         }
     }

@@ -1,5 +1,5 @@
 -- Laws of a request as a line: its runs, its rows, and what each branch of the reading answers. Assumes nothing.
-use Rattle.std.specs.Prelude.{◌≡◌, refl, Bool, true, false, not, ◌&&◌, ◌||◌, cond, List, [], ◌∷◌, leb, ltb, length, get_or, drop}
+use Rattle.std.specs.Prelude.{◌≡◌, refl, Bool, true, false, not, ◌&&◌, ◌||◌, cond, List, [], ◌∷◌, Ok, Err, leb, ltb, length, get_or, drop}
 use Rattle.std.proofs.Common.{sym, ap, ◌∙◌, add-one, leb→le, nltb→le, drop_of_length-le, pow_mono, drop-cons, get_or-drop}
 use Rattle.std.proofs.Math.Path.{subst}
 use Rattle.std.proofs.Math.Logic.{⊎_elim}
@@ -8,13 +8,14 @@ use Rattle.std.proofs.Math.Nat.{two-pow-succ}
 use native.Mathlib.Omega.{arith}
 use Rattle.std.proofs.Math.Dec.{T, eqb, ltb→lt, eqb→eq}
 use borrow.Author.Tests.{lt-ltb, le-ltb, le-leb, lt-leb, eq-eqb, ne_eqb, not-true, not-false}
-use Rattle.prelude.specs.Tests.{T-eq, T_of, not_true_false, and_in, and_l, and_r, eq→eqb, eq?, le?}
+use Rattle.prelude.specs.Tests.{T-eq, T_of, not_true_false, and_in, and_l, and_r, eq→eqb, le?}
 use Rattle.prelude.specs.Lists.{all_from}
 use Rattle.prelude.specs.Lists.Laws.{all_in, all_out}
 use Rattle.request.specs.declared.Request.{Request}
-use Rattle.request.specs.declared.Reading.{Reading}
-use Rattle.request.specs.declared.Reading.TheVariants.{Taken, Refused}
-use Rattle.request.specs.Line.{number_of, values_of, digit, table_character, field_character, leading, run_end, ended_by, single, row_character, is_table, marked, numbers_refusal, request_at, end1, end2, end3, end4, line_form, request_number, request_in, request_values, reading_by, request_of, numbers_of, Run, Bytes, Ends}
+use Rattle.refusal.specs.declared.Refusal.TheVariants.{RequestLine, Inputs, Table, Switches, SeriesBound}
+use Rattle.refusal.specs.Refusal.{numbered}
+use Rattle.refusal.specs.Refusal.Laws.{numbered_number, unless-number_of}
+use Rattle.request.specs.Line.{Reading, number_of, values_of, digit, table_character, field_character, leading, run_end, ended_by, single, row_character, is_table, marked, numbers_refusal, request_at, end1, end2, end3, end4, line_form, request_number, request_in, request_values, reading_by, request_of, numbers_of, Run, Bytes, Ends}
 use Rattle.request.specs.Numbers.{inputs_most, switches_most, series_most, rows_most, bit, asked, Good}
 use Rattle.request.proofs.NumbersLaws.{bit_half, bit_low}
 
@@ -243,29 +244,29 @@ module _ (b : ℕ) (s : List ℕ) (end i : ℕ) where
 
 module _ (s : List ℕ) (a b c d n : ℕ) (is_n : n ≡ single s 0 a) where
   -- n below 1
-  pub numbers_low : n < 1 → numbers_of s a b c d ≡ Refused 2
+  pub numbers_low : n < 1 → numbers_of s a b c d ≡ Err Inputs
   unfolding numbers_of numbers_refusal
   numbers_low h = rw (← is_n, lt-leb 1 n h)
 
   -- n above 4
-  pub numbers_high : inputs_most < n → numbers_of s a b c d ≡ Refused 2
+  pub numbers_high : inputs_most < n → numbers_of s a b c d ≡ Err Inputs
   unfolding numbers_of numbers_refusal
   numbers_high h = let l : 1 ≤ n = omega arith in rw (← is_n, le-leb 1 n l, lt-leb n inputs_most h)
 
   -- no table of 2^n characters
-  pub numbers_table : 1 ≤ n → n ≤ inputs_most → is_table s (a + 1) b n ≡ false → numbers_of s a b c d ≡ Refused 3
+  pub numbers_table : 1 ≤ n → n ≤ inputs_most → is_table s (a + 1) b n ≡ false → numbers_of s a b c d ≡ Err Table
   unfolding numbers_of numbers_refusal
   numbers_table l h t = rw (← is_n, le-leb 1 n l, le-leb n inputs_most h, t)
 
   -- r above 7
   pub numbers_r : 1 ≤ n → n ≤ inputs_most → is_table s (a + 1) b n ≡ true → (r : ℕ) → r ≡ single s (b + 1) c → switches_most < r
-      → numbers_of s a b c d ≡ Refused 4
+      → numbers_of s a b c d ≡ Err Switches
   unfolding numbers_of numbers_refusal
   numbers_r l h t r is-r x = rw (← is_n, le-leb 1 n l, le-leb n inputs_most h, t, ← is-r, lt-ltb switches_most r x)
 
   -- M above 7
   pub numbers_m : 1 ≤ n → n ≤ inputs_most → is_table s (a + 1) b n ≡ true → (r : ℕ) → r ≡ single s (b + 1) c → r ≤ switches_most
-      → (m : ℕ) → m ≡ single s (c + 1) d → series_most < m → numbers_of s a b c d ≡ Refused 5
+      → (m : ℕ) → m ≡ single s (c + 1) d → series_most < m → numbers_of s a b c d ≡ Err SeriesBound
   unfolding numbers_of numbers_refusal
   numbers_m l h t r is-r x m is_m y =
       rw (← is_n, le-leb 1 n l, le-leb n inputs_most h, t, ← is-r, le-ltb switches_most r x, ← is_m, lt-ltb series_most m y)
@@ -274,7 +275,7 @@ module _ (s : List ℕ) (a b c d n : ℕ) (is_n : n ≡ single s 0 a) where
   pub numbers_good : 1 ≤ n → n ≤ inputs_most → is_table s (a + 1) b n ≡ true → (r : ℕ) → r ≡ single s (b + 1) c → r ≤ switches_most
       → (m : ℕ) → m ≡ single s (c + 1) d → m ≤ series_most → (table : ℕ) → table ≡ marked 49 s (a + 1) (b - (a + 1))
       → (free : ℕ) → free ≡ marked 45 s (a + 1) (b - (a + 1))
-      → numbers_of s a b c d ≡ Taken (record { n = n; table = table; free = free; r = r; m = m })
+      → numbers_of s a b c d ≡ Ok (record { n = n; table = table; free = free; r = r; m = m })
   unfolding numbers_of numbers_refusal
   numbers_good l h t r is-r x m is_m y table is_table_lem free is_free =
       rw (← is_n, le-leb 1 n l, le-leb n inputs_most h, t, ← is-r, le-ltb switches_most r x)
@@ -290,25 +291,25 @@ module _ (p : ℕ → Bool) (s : List ℕ) (from end b : ℕ) (x : Bool) (is_end
   run_no e = rw (← is_end, ← is_x) (not-true x e)
 
 -- no first run
-pub form_first : (s : List ℕ) → ended_by s 0 (run_end digit s 0) 32 ≡ false → request_of s ≡ Refused 1
+pub form_first : (s : List ℕ) → ended_by s 0 (run_end digit s 0) 32 ≡ false → request_of s ≡ Err RequestLine
 unfolding request_of request_number line_form
 form_first s e = rw e
 
 module _ {s : List ℕ} {a : ℕ} (first : Run digit s 0 a 32) where
   -- no second
-  pub form_second : ended_by s (a + 1) (run_end table_character s (a + 1)) 32 ≡ false → request_of s ≡ Refused 1
+  pub form_second : ended_by s (a + 1) (run_end table_character s (a + 1)) 32 ≡ false → request_of s ≡ Err RequestLine
   unfolding request_of request_number line_form
   form_second e = rw (← first.is_end, first.ended, e)
 
   module _ {b : ℕ} (second : Run table_character s (a + 1) b 32) where
     -- no third
-    pub form_third : ended_by s (b + 1) (run_end digit s (b + 1)) 32 ≡ false → request_of s ≡ Refused 1
+    pub form_third : ended_by s (b + 1) (run_end digit s (b + 1)) 32 ≡ false → request_of s ≡ Err RequestLine
     unfolding request_of request_number line_form
     form_third e = rw (← first.is_end, first.ended, ← second.is_end, second.ended, e)
 
     module _ {c : ℕ} (third : Run digit s (b + 1) c 32) where
       -- no fourth
-      pub form_fourth : ended_by s (c + 1) (run_end digit s (c + 1)) 10 ≡ false → request_of s ≡ Refused 1
+      pub form_fourth : ended_by s (c + 1) (run_end digit s (c + 1)) 10 ≡ false → request_of s ≡ Err RequestLine
       unfolding request_of request_number line_form
       form_fourth e =
           rw (← first.is_end, first.ended, ← second.is_end, second.ended, ← third.is_end, third.ended, e)
@@ -321,7 +322,7 @@ module _ {s : List ℕ} {a : ℕ} (first : Run digit s 0 a 32) where
             rw (← first.is_end, first.ended, ← second.is_end, second.ended, ← third.is_end, third.ended, ← fourth.is_end, fourth.ended)
 
         -- bytes after the newline
-        pub form_longer : (d + 1 ≡ length s → ⊥) → request_of s ≡ Refused 1
+        pub form_longer : (d + 1 ≡ length s → ⊥) → request_of s ≡ Err RequestLine
         form_longer h = form_read ∙ rw (ne_eqb (d + 1) (length s) h)
 
         -- the line's form: what its numbers give
@@ -356,28 +357,47 @@ marked_once a b d s from k j h e =
     let f : get_or s (from + j) 0 ≡ a = eqb→eq (get_or s (from + j) 0) a (T_of _ (sym (marked_bit a s from k j h) ∙ e)) in
     marked_bit b s from k j h ∙ ne_eqb (get_or s (from + j) 0) b (λ g. d (sym f ∙ g))
 
+-- a number of a request's refusals is one of the documents'
+cond_low : (t : Bool) (k x : ℕ) → k ≤ 24 → x ≤ 24 → cond t k x ≤ 24
+cond_low true k x h l = h
+cond_low false k x h l = l
+
+numbers_low_24 : (s : List ℕ) (a b c d : ℕ) → numbers_refusal s a b c d ≤ 24
+unfolding numbers_refusal
+numbers_low_24 s a b c d =
+    cond_low _ 2 _ (omega arith)
+    (cond_low _ 3 _ (omega arith) (cond_low _ 4 _ (omega arith) (cond_low _ 5 0 (omega arith) (omega arith))))
+
+request_low : (s : List ℕ) → request_number s ≤ 24
+unfolding request_number
+request_low s = cond_low (line_form s) _ 1 (numbers_low_24 s _ _ _ _) (omega arith)
+
 -- the number of a reading is the rule's
 pub number_is : (s : List ℕ) → number_of (request_of s) ≡ request_number s
 unfolding request_of
-number_is s =
-    ⊎_elim (λ (z : request_number s ≡ 0). rw z) (λ (d : request_number s ≡ 0 → ⊥). rw (ne_eqb (request_number s) 0 d))
-    (eq? (request_number s) 0)
+number_is s = number_unless (request_number s) (request_low s)
+  where
+    number_unless : (k : ℕ) → k ≤ 24 → number_of (reading_by k (request_in s)) ≡ k
+    number_unless zero h = refl
+    number_unless (suc k) h = unless-number_of {A = Request} (suc k) (request_in s) h
 
 -- so are its values
 pub values_is : (s : List ℕ) → values_of (request_of s) ≡ request_values s
 unfolding request_of request_values
-values_is s =
-    ⊎_elim (λ (z : request_number s ≡ 0). rw z) (λ (d : request_number s ≡ 0 → ⊥). rw (ne_eqb (request_number s) 0 d))
-    (eq? (request_number s) 0)
+values_is s = values_unless (request_number s)
+  where
+    values_unless : (k : ℕ) → values_of (reading_by k (request_in s)) ≡ cond (eqb k 0) (values_of (Ok (request_in s))) []
+    values_unless zero = refl
+    values_unless (suc k) = rw (ne_eqb (suc k) 0 (λ e. omega arith))
 
 -- no two answers have the same number and values
 pub readings_differ : (x y : Reading) → number_of x ≡ number_of y → values_of x ≡ values_of y → x ≡ y
-readings_differ (Taken p) (Taken q) e f =
+readings_differ (Ok p) (Ok q) e f =
     let z : ◌≡◌ {A = Request} (asked p.n p.table p.free p.r p.m) (asked q.n q.table q.free q.r q.m) = cc in
-    ap Taken z
-readings_differ (Taken p) (Refused k) e f = absurd (let z : ◌≡◌ {A = ℕ} 0 1 = cc in omega arith)
-readings_differ (Refused k) (Taken q) e f = absurd (let z : ◌≡◌ {A = ℕ} 0 1 = cc in omega arith)
-readings_differ (Refused j) (Refused k) e f = cc
+    ap Ok z
+readings_differ (Ok p) (Err k) e f = absurd (let z : ◌≡◌ {A = ℕ} 0 1 = cc in omega arith)
+readings_differ (Err k) (Ok q) e f = absurd (let z : ◌≡◌ {A = ℕ} 0 1 = cc in omega arith)
+readings_differ (Err j) (Err k) e f = ap Err (sym (numbered_number j) ∙ ap numbered e ∙ numbered_number k)
 
 -- a number that is 0 past a refusal: its test failed
 past_refusal : (t : Bool) (k x : ℕ) → cond t (suc k) x ≡ 0 → T (not t) × (x ≡ 0)
@@ -417,11 +437,11 @@ numbers_taken s a b c d e =
     twice false h = h
 
 -- a request that was read passes the test of numbers
-pub request_good : (s : List ℕ) (q : Request) → request_of s ≡ Taken q → Good q
+pub request_good : (s : List ℕ) (q : Request) → request_of s ≡ Ok q → Good q
 unfolding request_of request_number
 request_good s q e =
     let z : request_number s ≡ 0 = sym (number_is s) ∙ ap number_of e in
-    let t : Taken (request_in s) ≡ Taken q = rw z at e in
+    let t : Ok (request_in s) ≡ Ok q = rw z at e in
     let is_q : request_in s ≡ q = cc in
     subst Good is_q (numbers_taken s (end1 s) (end2 s) (end3 s) (end4 s) (before_refusal (line_form s) 0 _ z))
 
@@ -432,10 +452,10 @@ free_none s h = marked_absent 45 s (end1 s + 1) (end2 s - (end1 s + 1)) (λ i l 
 -- the values of a request that was read, handed over in their order, make that request
 pub asked_read : (q : Request) (a b c d e : ℕ)
     → asked
-    (get_or (values_of (Taken q)) 0 a)
-    (get_or (values_of (Taken q)) 1 b)
-    (get_or (values_of (Taken q)) 2 c)
-    (get_or (values_of (Taken q)) 3 d)
-    (get_or (values_of (Taken q)) 4 e)
+    (get_or (values_of (Ok q)) 0 a)
+    (get_or (values_of (Ok q)) 1 b)
+    (get_or (values_of (Ok q)) 2 c)
+    (get_or (values_of (Ok q)) 3 d)
+    (get_or (values_of (Ok q)) 4 e)
     ≡ q
 asked_read q a b c d e = refl

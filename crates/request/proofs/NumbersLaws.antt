@@ -1,5 +1,5 @@
 -- Laws of the test of a request: what each of its branches answers, and that it answers 0 just for a good request. Assumes nothing.
-use Rattle.std.specs.Prelude.{◌≡◌, true, false, ◌&&◌, ℕ, zero, suc, ◌*◌, ◌/◌, ◌%◌, ◌^◌, ◌≤◌, ◌<◌, min, eqb}
+use Rattle.std.specs.Prelude.{◌≡◌, Bool, true, false, cond, ◌&&◌, ℕ, zero, suc, ◌*◌, ◌/◌, ◌%◌, ◌^◌, ◌≤◌, ◌<◌, min, eqb}
 use Rattle.std.proofs.Common.{sym, ap, ◌∙◌, subst, ⊎_elim, one-mul, mod-eq_of_lt, div-lt_iff_lt-mul, div-one, pow-suc, one-add, eqb→eq, pow_mono, pow_pos, shr-shr}
 use Rattle.std.proofs.Math.Nat.{div-eq_of_lt}
 use native.Mathlib.Omega.{arith}
@@ -29,6 +29,10 @@ and_some zero x y e f =
 and_some (suc k) x y e f =
     let h = and_some k (x / 2) (y / 2) (sym (bit_half x k) ∙ e) (sym (bit_half y k) ∙ f) in
     omega (arith, and_step x y)
+
+-- so numbers whose "and" is 0 have none
+pub and_none : (x y : ℕ) → bit_and x y ≡ 0 → (k : ℕ) → bit x k ≡ true → bit y k ≡ false
+and_none x y z k a = not_true_false (bit y k) (λ (b : bit y k ≡ true). omega (arith, and_some k x y a b))
 
 -- two digits whose lower is not 0
 min_ones : (x y : ℕ) → x < 2 → y < 2 → 0 < min x y → (x ≡ 1) × (y ≡ 1)
@@ -182,3 +186,16 @@ table_within x n h e =
     let z : x / 2 ^ (2 ^ n) ≡ 0 = rw (rows_shl n 32 h (omega arith)) at e in
     let m : x < 1 * 2 ^ (2 ^ n) = (div-lt_iff_lt-mul (pow_pos (2 ^ n))).0 (let d : x / 2 ^ (2 ^ n) < 1 = omega arith in d) in
     subst (λ (y : ℕ). x < y) (one-mul (2 ^ (2 ^ n))) m
+
+-- one of two numbers, neither above m
+pub within : (t : Bool) (x y m : ℕ) → x ≤ m → y ≤ m → cond t x y ≤ m
+within true x y m h k = h
+within false x y m h k = k
+
+-- a request is refused with the number of a refusal
+pub refusal_most : (q : Request) → refusal_of q ≤ 24
+unfolding refusal_of
+refusal_most q =
+    within _ 2 _ 24 (omega arith)
+    (within _ 3 _ 24 (omega arith)
+    (within _ 24 _ 24 (omega arith) (within _ 4 _ 24 (omega arith) (within _ 5 0 24 (omega arith) (omega arith)))))

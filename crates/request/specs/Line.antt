@@ -1,20 +1,25 @@
 -- A request as a line of text: "n, the table, r, M, single spaces between, newline (byte 10) last". Assumes nothing.
-use Rattle.std.specs.Prelude.{Bool, true, false, not, ◌&&◌, ◌||◌, cond, List, [], ◌∷◌, ◌≡◌, ℕ, zero, suc, ◌+◌, ◌-◌, ◌*◌, ◌^◌, ◌≤◌, ◌<◌, T, eqb, leb, ltb, length, get_or, drop}
+use Rattle.std.specs.Prelude.{Bool, true, false, not, ◌&&◌, ◌||◌, cond, List, [], ◌∷◌, Result, Ok, Err, ◌≡◌, ℕ, zero, suc, ◌+◌, ◌-◌, ◌*◌, ◌^◌, ◌≤◌, ◌<◌, T, eqb, leb, ltb, length, get_or, drop}
 use Rattle.prelude.specs.Lists.{all_from}
 use Rattle.request.specs.declared.Request.{Request}
-use Rattle.request.specs.declared.Reading.{Reading}
-use Rattle.request.specs.declared.Reading.TheVariants.{Taken, Refused}
+use Rattle.refusal.specs.declared.Refusal.{Refusal}
+use Rattle.refusal.specs.Refusal.{unless}
+use Rattle.refusal.specs.Refusal as R
 use Rattle.request.specs.Numbers.{inputs_most, switches_most, series_most}
+
+-- what reading a request answers: the request or the refusal
+abbrev pub Reading : Type 0
+Reading = Result Request Refusal
 
 -- document 01's number of an answer, 0 for a request that is taken
 abbrev pub number_of : Reading → ℕ
-number_of (Taken q) = 0
-number_of (Refused k) = k
+number_of (Ok q) = 0
+number_of (Err e) = R.number e
 
 -- and its values, "n, the table, r, M" of a request that is taken, the table as its two numbers: the rows that are on, then the free rows
 abbrev pub values_of : Reading → List ℕ
-values_of (Taken q) = q.n ∷ q.table ∷ q.free ∷ q.r ∷ q.m ∷ []
-values_of (Refused k) = []
+values_of (Ok q) = q.n ∷ q.table ∷ q.free ∷ q.r ∷ q.m ∷ []
+values_of (Err e) = []
 
 -- a byte that is a digit, 0 to 9
 abbrev pub digit : ℕ → Bool
@@ -115,7 +120,7 @@ request_values s =
 
 -- an answer by its number
 abbrev pub reading_by : ℕ → Request → Reading
-reading_by k q = cond (eqb k 0) (Taken q) (Refused k)
+reading_by = unless
 
 -- the answer of reading a request
 unfoldable pub request_of : List ℕ → Reading

@@ -24,10 +24,3 @@ pub struct Request {
     pub r: u8,
     pub m: u8,
 }
-
-// What reading a request answers: the request, or the number of the refusal and nothing else.
-#[derive(Clone, Copy)]
-pub enum Reading {
-    Taken(Request),
-    Refused(u8),
-}

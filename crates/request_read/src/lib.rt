@@ -5,69 +5,77 @@
 
 ghost use Rattle.std.specs.Prelude.{◌≡◌, ◌-◌, ◌≤◌, ◌<◌, length};
 ghost use Rattle.request.specs.Numbers.{inputs_most, rows_most};
-ghost use Rattle.request.specs.Line.{number_of, values_of, digit, field_character, run_end, ended_by, single, row_character, is_table, marked, request_number, request_values, request_of, numbers_of, Bytes, Ends};
+ghost use Rattle.request.specs.Line.{number_of, values_of, digit, run_end, ended_by, single, row_character, is_table, marked, request_number, request_values, request_of, numbers_of, Bytes, Ends};
+ghost use Rattle.request_read.specs.Field.{characters, digit_within};
 
-use request::{INPUTS, Reading, Request, SERIES, SWITCHES};
+use refusal::Refusal;
+use request::{INPUTS, Request, SERIES, SWITCHES};
 
-// The field of a run: the table,
-const TABLE: bool = true;
+// The field of a run: the table, or n, r or M.
+#[derive(Clone, Copy)]
+pub enum Field {
+    Table,
+    Number,
+}
 
-// or n, r or M.
-const NUMBER: bool = false;
-
-// Whether a byte may stand in a field: a digit, and in the table "-" too.
-fn in_field(b: u8, table: bool) -> bool
-    ensures { result ≡ field_character table b }
-{
-    if b == b'-' {
-        return table;
+impl Field {
+    // Whether a byte may stand in the field: a digit, and in the table "-" too.
+    fn has(self, b: u8) -> bool
+        ensures { result ≡ characters self b }
+    {
+        match self {
+            Field::Table => b.is_ascii_digit() || b == b'-',
+            Field::Number => b.is_ascii_digit(),
+        }
     }
-    b'0' <= b && b <= b'9'
 }
 
 // The end of the run of such bytes that starts at from.
-fn run_end(text: &[u8], from: usize, table: bool) -> usize
-    ensures { result ≡ run_end (field_character table) text.now from }
+fn run_end(text: &[u8], from: usize, field: Field) -> usize
+    ensures { result ≡ run_end (characters field) text.now from }
 {
-    let mut i = from;
-    while i < text.len() {
-        if !in_field(text[i], table) {
+    for i in from..text.len() {
+        if !field.has(text[i]) {
             return i;
         }
-        i += 1;
     }
-    i
+    from.max(text.len())
 }
 
 // Whether the run from one place to another is not empty, with the byte b after it.
 fn ended_by(text: &[u8], from: usize, end: usize, b: u8) -> bool
     ensures { result ≡ ended_by text.now from end b }
 {
-    if end <= from {
-        return false;
-    }
-    if text.len() <= end {
-        return false;
-    }
-    text[end] == b
+    from < end && end < text.len() && text[end] == b
 }
 
-// The digit that a run of one character is; 10 for a longer run.
-fn one_digit(text: &[u8], from: usize, end: usize) -> u8
-    requires { (from < end) × (end ≤ length text.now) × Bytes digit text.now from end }
-    ensures { result ≡ single text.now from end }
+// The digit that a run of one character is, if it is at most `most`; a higher one and a longer run are refused.
+fn one_digit(
+    text: &[u8],
+    from: usize,
+    end: usize,
+    most: u8,
+    refusal: Refusal,
+) -> Result<u8, Refusal>
+    requires { (from < end) × (end ≤ length text.now) × Bytes digit text.now from end × (most < 10) }
+    ensures { result ≡ digit_within (single text.now from end) most refusal }
 {
     if end - from != 1 {
-        return 10;
+        return Err(refusal);
     }
-    text[from] - b'0'
+    let digit = text[from] - b'0';
+    if most < digit {
+        Err(refusal)
+    } else {
+        Ok(digit)
+    }
 }
 
 // Whether a byte is the character of a row: 0, 1, or "-" for a free row.
 fn is_row(b: u8) -> bool
     ensures { result ≡ row_character b }
 {
-    b == b'0' || (b == b'1' || b == b'-')
+    matches!(b, b'0' | b'1' | b'-')
 }
 
 // Whether a run is a table of 2^n such characters.
@@ -75,15 +83,13 @@ fn is_table(text: &[u8], from: usize, end: usize, n: u8) -> bool
     requires { (from ≤ end) × (end ≤ length text.now) × (n ≤ inputs_most) }
     ensures { result ≡ is_table text.now from end n }
 {
-    if end - from != 1usize << (n as usize) {
+    if end - from != 1usize << n {
         return false;
     }
-    let mut i = from;
-    while i < end {
+    for i in from..end {
         if !is_row(text[i]) {
             return false;
         }
-        i += 1;
     }
     true
 }
@@ -94,11 +100,9 @@ fn rows_marked(text: &[u8], from: usize, end: usize, mark: u8) -> u16
     ensures { result ≡ marked mark text.now from (end - from) }
 {
     let mut rows: u32 = 0;
-    let mut i = end;
-    while from < i {
-        i -= 1;
+    for k in 0..end - from {
         rows = 2 * rows;
-        if text[i] == mark {
+        if text[end - 1 - k] == mark {
             rows += 1;
         }
     }
@@ -106,31 +110,22 @@ fn rows_marked(text: &[u8], from: usize, end: usize, mark: u8) -> u16
 }
 
 // The request whose four runs end at a, b, c and d.
-fn numbers_at(text: &[u8], a: usize, b: usize, c: usize, d: usize) -> Reading
+fn numbers_at(text: &[u8], a: usize, b: usize, c: usize, d: usize) -> Result<Request, Refusal>
     requires { Ends text.now a b c d }
     ensures { result ≡ numbers_of text.now a b c d }
 {
-    let n = one_digit(text, 0, a);
+    let n = one_digit(text, 0, a, INPUTS, Refusal::Inputs)?;
     if n < 1 {
-        return Reading::Refused(2);
-    }
-    if INPUTS < n {
-        return Reading::Refused(2);
+        return Err(Refusal::Inputs);
     }
     if !is_table(text, a + 1, b, n) {
-        return Reading::Refused(3);
+        return Err(Refusal::Table);
     }
-    let r = one_digit(text, b + 1, c);
-    if SWITCHES < r {
-        return Reading::Refused(4);
-    }
-    let m = one_digit(text, c + 1, d);
-    if SERIES < m {
-        return Reading::Refused(5);
-    }
+    let r = one_digit(text, b + 1, c, SWITCHES, Refusal::Switches)?;
+    let m = one_digit(text, c + 1, d, SERIES, Refusal::SeriesBound)?;
     let table = rows_marked(text, a + 1, b, b'1');
     let free = rows_marked(text, a + 1, b, b'-');
-    Reading::Taken(Request {
+    Ok(Request {
         n,
         table,
         free,
@@ -139,29 +134,29 @@ fn numbers_at(text: &[u8], a: usize, b: usize, c: usize, d: usize) -> Reading
     })
 }
 
-pub fn read_request(text: &[u8]) -> Reading
+pub fn read_request(text: &[u8]) -> Result<Request, Refusal>
     ensures answer { result ≡ request_of text.now }
     ensures number { number_of result ≡ request_number text.now }
     ensures values { values_of result ≡ request_values text.now }
 {
-    let a = run_end(text, 0, NUMBER);
+    let a = run_end(text, 0, Field::Number);
     if !ended_by(text, 0, a, b' ') {
-        return Reading::Refused(1);
+        return Err(Refusal::RequestLine);
     }
-    let b = run_end(text, a + 1, TABLE);
+    let b = run_end(text, a + 1, Field::Table);
     if !ended_by(text, a + 1, b, b' ') {
-        return Reading::Refused(1);
+        return Err(Refusal::RequestLine);
     }
-    let c = run_end(text, b + 1, NUMBER);
+    let c = run_end(text, b + 1, Field::Number);
     if !ended_by(text, b + 1, c, b' ') {
-        return Reading::Refused(1);
+        return Err(Refusal::RequestLine);
     }
-    let d = run_end(text, c + 1, NUMBER);
+    let d = run_end(text, c + 1, Field::Number);
     if !ended_by(text, c + 1, d, b'\n') {
-        return Reading::Refused(1);
+        return Err(Refusal::RequestLine);
     }
     if d + 1 != text.len() {
-        return Reading::Refused(1);
+        return Err(Refusal::RequestLine);
     }
     numbers_at(text, a, b, c, d)
 }

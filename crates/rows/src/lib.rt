@@ -11,7 +11,7 @@ use request::{INPUTS, Request};
 pub const ROWS: u32 = 1 << INPUTS;
 
 // What a row asks of a network: current, none, or nothing.
-#[derive(Clone, Copy)]
+#[derive(Clone, Copy, Debug, PartialEq, Eq)]
 pub enum Kind {
     On,
     Off,
@@ -30,30 +30,29 @@ const INPUT_ROWS: [[u16; INPUTS as usize]; INPUTS as usize] = [
 fn has_row(rows: u16, k: u8) -> bool
     ensures { result ≡ bit rows k }
 {
-    if ROWS <= k as u32 {
-        return false;
-    }
-    (rows >> k) % 2 == 1
+    (k as u32) < ROWS && (rows >> k) % 2 == 1
 }
 
 // The kind of row k of a request. All that treats rows of different kinds differently asks this.
+#[tactic(auto, unfolding(crate::specs::Rows::kind_of))]
 pub fn row_kind(q: Request, k: u8) -> Kind
     ensures { result ≡ kind_of q k }
 {
     if has_row(q.table, k) {
-        return Kind::On;
+        Kind::On
+    } else if has_row(q.free, k) {
+        Kind::Free
+    } else {
+        Kind::Off
     }
-    if has_row(q.free, k) {
-        return Kind::Free;
-    }
-    Kind::Off
 }
 
 // How many rows a number has.
+#[tactic(auto, using(crate::proofs::RowsLaws::ones_all))]
 pub fn rows_in(rows: u16) -> u32
     ensures { result ≡ set_below rows rows_most }
 {
-    u16::count_ones(rows)
+    rows.count_ones()
 }
 
 // How many of them are below row k.
@@ -61,12 +60,14 @@ pub fn rows_below(rows: u16, k: u8) -> u32
     ensures { result ≡ set_below rows k }
 {
     if (k as u32) < ROWS {
-        return u16::count_ones(rows % (1u16 << k));
+        (rows % (1 << k)).count_ones()
+    } else {
+        rows_in(rows)
     }
-    rows_in(rows)
 }
 
 // The rows on which input v is 1.
+#[tactic(auto, unfolding(crate::specs::Rows::input_rows, crate::specs::Rows::input_table))]
 fn input_rows(n: u8, v: u8) -> u16
     requires { (1 ≤ n) × (n ≤ inputs_most) × (v < n) }
     ensures { result ≡ input_rows n v }
@@ -75,30 +76,23 @@ fn input_rows(n: u8, v: u8) -> u16
 }
 
 // The value of literal v on row k: an input, or the complement of one.
+#[tactic(auto, using(crate::proofs::RowsLaws::literal_input, crate::proofs::RowsLaws::literal_complement))]
 fn literal_within(n: u8, k: u8, v: u8) -> bool
     requires { (1 ≤ n) × (n ≤ inputs_most) × (k < 2 ^ n) × (v < 2 * n) }
     ensures { result ≡ literal_on n k v }
 {
     if v < n {
-        return has_row(input_rows(n, v), k);
+        has_row(input_rows(n, v), k)
+    } else {
+        !has_row(input_rows(n, v - n), k)
     }
-    !has_row(input_rows(n, v - n), k)
 }
 
 // The same, and false where there is no such literal or row.
 pub fn literal_on(n: u8, k: u8, v: u8) -> bool
     ensures { result ≡ literal_value n k v }
 {
-    if n < 1 {
-        return false;
-    }
-    if INPUTS < n {
-        return false;
-    }
-    if 1u32 << (n as u32) <= k as u32 {
-        return false;
-    }
-    if 2 * n <= v {
+    if n < 1 || INPUTS < n || 1 << n <= k as u32 || 2 * n <= v {
         return false;
     }
     literal_within(n, k, v)

@@ -1,5 +1,5 @@
 -- Settling by document 01's numbers and values. Assumes nothing.
-use Rattle.std.specs.Prelude.{◌≡◌, refl, Bool, true, false, List, [], ◌∷◌, ℕ, ◌^◌, eqb, ltb}
+use Rattle.std.specs.Prelude.{◌≡◌, refl, Bool, true, false, List, [], ◌∷◌, ℕ, ◌^◌, eqb, ltb, Some, None, Ok, Err}
 use Rattle.std.proofs.Math.Path.{sym, ap}
 use Rattle.std.proofs.Common.{◌∙◌, arith, eq-eqb, ne_eqb}
 use Rattle.std.proofs.Math.Bool.{cond}
@@ -7,14 +7,15 @@ use Rattle.std.proofs.Math.Logic.{⊎_elim}
 use Rattle.prelude.specs.Tests.{eq?}
 use Rattle.request.specs.declared.Request.{Request}
 use Rattle.network.specs.declared.Network.{Network}
-use Rattle.network.specs.declared.Checked.TheVariants.{Does as does, Wrong}
+use Rattle.refusal.specs.declared.Refusal.{Refusal}
+use Rattle.refusal.specs.Refusal.{number, numbered}
+use Rattle.refusal.specs.Refusal.Laws.{numbered_number, number_some, numbered_back}
 use Rattle.network.specs.Check.{first_wrong, rows_answer}
 use Rattle.answer.specs.Reading.{reading_of}
-use Rattle.lrat.specs.Outcome.{outcome_number}
-use Rattle.lrat.specs.declared.Outcome.{Outcome}
-use Rattle.lrat.specs.declared.Outcome.TheVariants.{None, Refused as outcome_refused}
+use Rattle.answer.proofs.ReadingNumbers.{reading_numbered}
+use Rattle.lrat.specs.Outcome.{Outcome, outcome_number}
 use Rattle.lrat_check.specs.Refutation.{Lent, check_answer}
-use Rattle.lrat_check.specs.Refutation.Laws.{answer_number, answer_numbered}
+use Rattle.lrat_check.specs.Refutation.Laws.{answer_number}
 use Rattle.settle.specs.declared.Settlement.{Settlement}
 use Rattle.settle.specs.declared.Verdict.{Verdict}
 use Rattle.settle.specs.declared.Verdict.TheVariants.{Least, Works, Fails, Refused}
@@ -24,21 +25,21 @@ use Rattle.settle.specs.Settle.Exactly.{decoded_rows, refused_verdict}
 
 -- the verdict that a refutation leads to
 outcome_zero : (o : Outcome) → verdict_number (outcome_verdict o) ≡ 0
-outcome_zero None = refl
-outcome_zero (outcome_refused x) = refl
+outcome_zero (Ok x) = refl
+outcome_zero (Err e) = refl
 
-outcome_values : (k : ℕ) (o : Outcome) → (o ≡ outcome_refused 0 → ⊥)
+outcome_values : (k : ℕ) (o : Outcome)
     → verdict_values k (outcome_verdict o) ≡ cond (eqb (outcome_number o) 0) (0 ∷ k ∷ []) (1 ∷ k ∷ outcome_number o ∷ [])
-outcome_values k None d = refl
-outcome_values k (outcome_refused x) d = rw (ne_eqb x 0 (λ z. d (ap outcome_refused z)))
+outcome_values k (Ok x) = refl
+outcome_values k (Err e) = rw (ne_eqb (number e) 0 (number_some e))
 
 -- the verdict by the rows of a network
-rows_zero : (b : Bool) (row : ℕ) (v : Verdict) (w : Network) → verdict_number v ≡ 0 → verdict_number (judged (cond b (Wrong row) does) v w).verdict ≡ 0
+rows_zero : (b : Bool) (row : ℕ) (v : Verdict) (w : Network) → verdict_number v ≡ 0 → verdict_number (judged (Ok (cond b (Some row) None)) v w).verdict ≡ 0
 rows_zero true row v w e = refl
 rows_zero false row v w e = e
 
 rows_values_lem : (b : Bool) (k row : ℕ) (v : Verdict) (w : Network)
-    → verdict_values k (judged (cond b (Wrong row) does) v w).verdict ≡ cond b (2 ∷ k ∷ row ∷ []) (verdict_values k v)
+    → verdict_values k (judged (Ok (cond b (Some row) None)) v w).verdict ≡ cond b (2 ∷ k ∷ row ∷ []) (verdict_values k v)
 rows_values_lem true k row v w = refl
 rows_values_lem false k row v w = refl
 
@@ -57,7 +58,7 @@ module _ (q : Request) (refutation : List ℕ) (s : Lent) where
       ⊎_elim (λ (z : q.r ≡ 0). rw (eq-eqb q.r 0 z))
       (λ (d : q.r ≡ 0 → ⊥).
       rw (ne_eqb q.r 0 d)
-      (outcome_values q.r (check_answer (smaller q) refutation s).outcome (answer_numbered (smaller q) refutation s)
+      (outcome_values q.r (check_answer (smaller q) refutation s).outcome
       ∙ ap (λ (x : ℕ). cond (eqb x 0) (0 ∷ q.r ∷ []) (1 ∷ q.r ∷ x ∷ [])) (answer_number (smaller q) refutation s)))
       (eq? q.r 0)
 
@@ -68,8 +69,8 @@ module _ (q : Request) (answer refutation : List ℕ) (s : Lent) where
 
   -- the verdict of an answer that is taken, by the rows of its network
   by_rows : (reading_of q answer).refusal ≡ 0
-      → (judged (rows_answer q read) (verdict_below q refutation s) read).verdict ≡ (settlement q answer refutation s).verdict
-  by_rows z = ap (λ (x : Settlement). x.verdict) (settles_judged q answer refutation s z (rows_answer q read) (decoded_rows q answer z)).says
+      → (judged (Ok (rows_answer q read)) (verdict_below q refutation s) read).verdict ≡ (settlement q answer refutation s).verdict
+  by_rows z = ap (λ (x : Settlement). x.verdict) (settles_judged q answer refutation s z (Ok (rows_answer q read)) (decoded_rows q answer z)).says
 
   -- the number of the verdict is the rule's
   pub settle_number_lem : verdict_number (settlement q answer refutation s).verdict ≡ settle_number q answer
@@ -80,7 +81,7 @@ module _ (q : Request) (answer refutation : List ℕ) (s : Lent) where
       ap verdict_number (sym (by_rows z))
       ∙ rows_zero (ltb (first_wrong q read) (2 ^ q.n)) (first_wrong q read) (verdict_below q refutation s) read (below_unrefused q refutation s)
       ∙ sym z)
-      (λ (d : (reading_of q answer).refusal ≡ 0 → ⊥). ap verdict_number (sym (refused_verdict q answer refutation s d)))
+      (λ (d : (reading_of q answer).refusal ≡ 0 → ⊥). ap verdict_number (sym (refused_verdict q answer refutation s d)) ∙ numbered_back (reading_of q answer).refusal d (reading_numbered q answer))
       (eq? (reading_of q answer).refusal 0)
 
   -- and so are the values
@@ -97,6 +98,10 @@ module _ (q : Request) (answer refutation : List ℕ) (s : Lent) where
       rw (ne_eqb (reading_of q answer).refusal 0 d) (ap (verdict_values q.r) (sym (refused_verdict q answer refutation s d))))
       (eq? (reading_of q answer).refusal 0)
 
+-- two refusals with one number are one
+numbers_differ : (x y : Refusal) → number x ≡ number y → x ≡ y
+numbers_differ x y e = sym (numbered_number x) ∙ ap numbered e ∙ numbered_number y
+
 -- no two different verdicts have equal number and values
 pub verdicts_differ : (k : ℕ) (x y : Verdict) → verdict_number x ≡ verdict_number y → verdict_values k x ≡ verdict_values k y → x ≡ y
 verdicts_differ k Least Least e f = refl
@@ -104,7 +109,7 @@ verdicts_differ k Least (Works y) e f = absurd (let z : ◌≡◌ {A = ℕ} 0 1 
 verdicts_differ k Least (Fails y) e f = absurd (let z : ◌≡◌ {A = ℕ} 0 2 = cc in omega arith)
 verdicts_differ k Least (Refused y) e f = absurd (let z : ◌≡◌ {A = ℕ} 0 3 = cc in omega arith)
 verdicts_differ k (Works x) Least e f = absurd (let z : ◌≡◌ {A = ℕ} 1 0 = cc in omega arith)
-verdicts_differ k (Works x) (Works y) e f = cc
+verdicts_differ k (Works x) (Works y) e f = let z : number x ≡ number y = cc in ap Works (numbers_differ x y z)
 verdicts_differ k (Works x) (Fails y) e f = absurd (let z : ◌≡◌ {A = ℕ} 1 2 = cc in omega arith)
 verdicts_differ k (Works x) (Refused y) e f = absurd (let z : ◌≡◌ {A = ℕ} 1 3 = cc in omega arith)
 verdicts_differ k (Fails x) Least e f = absurd (let z : ◌≡◌ {A = ℕ} 2 0 = cc in omega arith)
@@ -114,4 +119,4 @@ verdicts_differ k (Fails x) (Refused y) e f = absurd (let z : ◌≡◌ {A = ℕ
 verdicts_differ k (Refused x) Least e f = absurd (let z : ◌≡◌ {A = ℕ} 3 0 = cc in omega arith)
 verdicts_differ k (Refused x) (Works y) e f = absurd (let z : ◌≡◌ {A = ℕ} 3 1 = cc in omega arith)
 verdicts_differ k (Refused x) (Fails y) e f = absurd (let z : ◌≡◌ {A = ℕ} 3 2 = cc in omega arith)
-verdicts_differ k (Refused x) (Refused y) e f = ap Refused e
+verdicts_differ k (Refused x) (Refused y) e f = ap Refused (numbers_differ x y e)

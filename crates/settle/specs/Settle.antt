@@ -1,16 +1,15 @@
 -- What settling says, and what it leaves in the slices that it was lent (document 01, "Settling takes a request with r = k, an answer,
 -- a refutation for k−1"). Assumes nothing.
-use Rattle.std.specs.Prelude.{cond, List, [], ◌∷◌, ℕ, ◌-◌, ◌^◌, eqb, ltb}
+use Rattle.std.specs.Prelude.{cond, List, [], ◌∷◌, ℕ, ◌-◌, ◌^◌, eqb, ltb, Option, Some, None, Result, Ok, Err}
 use Rattle.request.specs.declared.Request.{Request}
 use Rattle.request.specs.Numbers.{with_switches}
 use Rattle.network.specs.declared.Network.{Network}
-use Rattle.network.specs.declared.Checked.{Checked}
-use Rattle.network.specs.declared.Checked.TheVariants.{Does as does, Wrong, Refused as form_refused}
-use Rattle.network.specs.Check.{first_wrong, checked_of}
+use Rattle.network.specs.Check.{Checked, first_wrong, checked_of}
 use Rattle.network.specs.Value.{zeros}
 use Rattle.answer.specs.Reading.{reading_of}
-use Rattle.lrat.specs.declared.Outcome.{Outcome}
-use Rattle.lrat.specs.declared.Outcome.TheVariants.{None, Refused as outcome_refused}
+use Rattle.refusal.specs.declared.Refusal.{Refusal}
+use Rattle.refusal.specs.Refusal.{number, numbered}
+use Rattle.lrat.specs.Outcome.{Outcome}
 use Rattle.lrat_check.specs.Refutation.{Lent, check_number, check_answer, check_leaves}
 use Rattle.settle.specs.declared.Settlement.{Settlement}
 use Rattle.settle.specs.declared.Verdict.{Verdict}
@@ -22,17 +21,17 @@ pub mod Meaning
 -- document 01's number of a verdict, 0 where it is not a refusal
 abbrev pub verdict_number : Verdict → ℕ
 verdict_number Least = 0
-verdict_number (Works x) = 0
+verdict_number (Works e) = 0
 verdict_number (Fails row) = 0
-verdict_number (Refused x) = x
+verdict_number (Refused e) = number e
 
 -- and its values for a request with r = k: which of the four it is, in the order "least k", "works k number", "fails k row",
 -- "refused number", then k, and the number or the row
 abbrev pub verdict_values : ℕ → Verdict → List ℕ
 verdict_values k Least = 0 ∷ k ∷ []
-verdict_values k (Works x) = 1 ∷ k ∷ x ∷ []
+verdict_values k (Works e) = 1 ∷ k ∷ number e ∷ []
 verdict_values k (Fails row) = 2 ∷ k ∷ row ∷ []
-verdict_values k (Refused x) = 3 ∷ []
+verdict_values k (Refused e) = 3 ∷ []
 
 -- the request that the refutation is for: r is k−1
 abbrev pub smaller : Request → Request
@@ -40,23 +39,23 @@ smaller q = with_switches q (q.r - 1)
 
 -- "\"works\" with the refutation's number; else \"least\""
 abbrev pub outcome_verdict : Outcome → Verdict
-outcome_verdict None = Least
-outcome_verdict (outcome_refused x) = Works x
+outcome_verdict (Ok x) = Least
+outcome_verdict (Err e) = Works e
 
 -- the verdict on a network that does the job: "then, for k above 0, \"works\" with the refutation's number; else \"least\""
 unfoldable pub verdict_below : Request → List ℕ → Lent → Verdict
 verdict_below q refutation s = cond (eqb q.r 0) Least (outcome_verdict (check_answer (smaller q) refutation s).outcome)
 
 -- "the network of zeros with a refusal"
-abbrev pub refused_with : ℕ → Settlement
-refused_with x = record { verdict = Refused x; network = zeros }
+abbrev pub refused_with : Refusal → Settlement
+refused_with e = record { verdict = Refused e; network = zeros }
 
 -- what the check of the decoded network w leads to, with the verdict v where it does the job: "\"fails\" with the row; then ..".
 -- "The decoded network comes with each verdict". The check refuses no decoded network: never-refused, in Exactly
 abbrev pub judged : Checked → Verdict → Network → Settlement
-judged does v w = record { verdict = v; network = w }
-judged (Wrong row) v w = record { verdict = Fails row; network = w }
-judged (form_refused x) v w = refused_with x
+judged (Ok None) v w = record { verdict = v; network = w }
+judged (Ok (Some row)) v w = record { verdict = Fails row; network = w }
+judged (Err e) v w = refused_with e
 
 -- settling in document 01's numbers: "the answer's refusals". The network check adds none: never-refused, in Exactly
 unfoldable pub settle_number : Request → List ℕ → ℕ
@@ -83,7 +82,7 @@ unfoldable pub settlement : Request → List ℕ → List ℕ → Lent → Settl
 settlement q answer refutation s =
     cond (eqb (reading_of q answer).refusal 0)
     (judged (checked_of q (reading_of q answer).network) (verdict_below q refutation s) (reading_of q answer).network)
-    (refused_with (reading_of q answer).refusal)
+    (refused_with (numbered (reading_of q answer).refusal))
 
 -- the slices s where the network does the job: "At k = 0 no refutation is read and no work slice touched"; else as the check of the
 -- refutation leaves them
@@ -92,9 +91,9 @@ leaves_below q refutation s = cond (eqb q.r 0) s (check_leaves (smaller q) refut
 
 -- the slices s by the check of the decoded network: only where it does the job is a refutation read, and l left
 abbrev pub slices_after : Checked → Lent → Lent → Lent
-slices_after does s l = l
-slices_after (Wrong row) s l = s
-slices_after (form_refused x) s l = s
+slices_after (Ok None) s l = l
+slices_after (Ok (Some row)) s l = s
+slices_after (Err e) s l = s
 
 -- the slices afterwards: "A refusal of 1 to 15 writes nothing"
 unfoldable pub settle_leaves : Request → List ℕ → List ℕ → Lent → Lent

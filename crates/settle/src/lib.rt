@@ -11,22 +11,22 @@ ghost use Rattle.network.specs.Least.{LeastFor};
 ghost use Rattle.settle.specs.Settle.{verdict_number, verdict_values, smaller, outcome_verdict, refused_with, settle_number, settle_values, settlement, settle_leaves};
 ghost use Rattle.settle.specs.declared.Verdict.TheVariants.{Least};
 
-use lrat::Outcome;
-use network::{Checked, Network};
+use network::Network;
+use refusal::Refusal;
 use request::Request;
 
-// What settling says: k is the least number of switches; the network works, with the number that the refutation is refused with; it
-// fails, with its lowest wrong row; or the number of a refusal.
-#[derive(Clone, Copy)]
+// What settling says: k is the least number of switches; the network works, with the refusal of the refutation; it fails, with its
+// lowest wrong row; or a refusal.
+#[derive(Clone, Copy, Debug, PartialEq, Eq)]
 pub enum Verdict {
     Least,
-    Works(u8),
+    Works(Refusal),
     Fails(u8),
-    Refused(u8),
+    Refused(Refusal),
 }
 
 // The verdict, and the network that the answer describes, or the network of zeros with a refusal.
-#[derive(Clone, Copy)]
+#[derive(Clone, Copy, Debug, PartialEq, Eq)]
 pub struct Settlement {
     pub verdict: Verdict,
     pub network: Network,
@@ -36,21 +36,14 @@ pub struct Settlement {
 fn with_network(verdict: Verdict, network: Network) -> Settlement
     ensures { result ≡ record { verdict = verdict; network = network } }
 {
-    Settlement {
-        verdict: verdict,
-        network: network,
-    }
+    Settlement { verdict, network }
 }
 
 // A refused settling.
-fn refused(number: u8) -> Settlement
-    ensures { result ≡ refused_with number }
+fn refused(refusal: Refusal) -> Settlement
+    ensures { result ≡ refused_with refusal }
 {
-    let zeros = network::value::zero_network();
-    Settlement {
-        verdict: Verdict::Refused(number),
-        network: zeros,
-    }
+    with_network(Verdict::Refused(refusal), network::value::zero_network())
 }
 
 // The request for k-1 switches.
@@ -58,26 +51,21 @@ fn one_fewer(q: Request) -> Request
     requires { 0 < q.r }
     ensures { result ≡ smaller q }
 {
-    Request {
-        n: q.n,
-        table: q.table,
-        free: q.free,
-        r: q.r - 1,
-        m: q.m,
-    }
+    Request { r: q.r - 1, ..q }
 }
 
 // The verdict that the refutation leads to, for a network that does the job.
-fn verdict_of(outcome: Outcome) -> Verdict
+fn verdict_of(outcome: Result<(), Refusal>) -> Verdict
     ensures { result ≡ outcome_verdict outcome }
 {
     match outcome {
-        Outcome::None => Verdict::Least,
-        Outcome::Refused(number) => Verdict::Works(number),
+        Ok(()) => Verdict::Least,
+        Err(refusal) => Verdict::Works(refusal),
     }
 }
 
-// Settles a request with r = k. The slices are for the check of the refutation; a refusal, "fails" and k = 0 leave them as they are.
+// Settles a request with r = k. The slices are for the check of the refutation, which says why they are no struct; a refusal, "fails"
+// and k = 0 leave them as they are.
 pub fn settle(
     q: Request,
     answer: &[u8],
@@ -93,16 +81,14 @@ pub fn settle(
     ensures number { verdict_number result.verdict ≡ settle_number q answer.now }
     ensures values { verdict_values q.r result.verdict ≡ settle_values q answer.now refutation.now (lent literals.old pairs.old added.old values.old) }
 {
-    let read = answer_read::read::read_answer(q, answer);
-    if read.refusal != 0 {
-        return refused(read.refusal);
-    }
-    let decoded = read.network;
-    let checked = network_check::check_network(q, decoded);
-    match checked {
-        Checked::Refused(number) => refused(number),
-        Checked::Wrong(row) => with_network(Verdict::Fails(row), decoded),
-        Checked::Does => {
+    let decoded = match answer_read::read::read_answer(q, answer) {
+        Ok(network) => network,
+        Err(refusal) => return refused(refusal),
+    };
+    match network_check::check_network(q, decoded) {
+        Err(refusal) => refused(refusal),
+        Ok(Some(row)) => with_network(Verdict::Fails(row), decoded),
+        Ok(None) => {
             if q.r == 0 {
                 return with_network(Verdict::Least, decoded);
             }
@@ -114,8 +100,7 @@ pub fn settle(
                 added,
                 values,
             );
-            let outcome = below.outcome;
-            with_network(verdict_of(outcome), decoded)
+            with_network(verdict_of(below.outcome), decoded)
         }
     }
 }

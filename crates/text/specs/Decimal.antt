@@ -12,6 +12,11 @@ digits (suc f) x = cond (ltb x 10) [] (digits f (x / 10)) ++ ((48 + x % 10) ∷ 
 unfoldable pub decimal : ℕ → List ℕ
 decimal x = digits (suc x) x
 
+-- the last k digits of x, with leading zeros
+abbrev pub padded : ℕ → ℕ → List ℕ
+padded zero x = []
+padded (suc k) x = padded k (x / 10) ++ ((48 + x % 10) ∷ [])
+
 -- two digits, and four, with leading zeros
 abbrev pub two : ℕ → List ℕ
 two x = (48 + x / 10) ∷ (48 + x % 10) ∷ []

@@ -4,8 +4,8 @@
 #![tactic(auto)]
 
 use answer::{VALUES, Values};
-use network::{Checked, Network};
-use request::{Reading, Request};
+use network::Network;
+use request::Request;
 use std::io;
 use std::io::Write;
 
@@ -15,7 +15,7 @@ fn number<W: Write>(out: &mut W, x: u64) -> io::Result<()> {
 
 fn show_reading<W: Write>(out: &mut W, text: &[u8]) -> io::Result<()> {
     match request_read::read_request(text) {
-        Reading::Taken(q) => {
+        Ok(q) => {
             write!(out, "taken")?;
             number(out, u64::from(q.n))?;
             number(out, u64::from(q.table))?;
@@ -23,44 +23,25 @@ fn show_reading<W: Write>(out: &mut W, text: &[u8]) -> io::Result<()> {
             number(out, u64::from(q.r))?;
             number(out, u64::from(q.m))?;
         }
-        Reading::Refused(k) => {
-            write!(out, "refused")?;
-            number(out, u64::from(k))?;
-        }
+        Err(refusal) => write!(out, "refused {refusal}")?,
     }
     writeln!(out)
-}
-
-fn asked(n: u8, table: u16, free: u16, r: u8, m: u8) -> Request {
-    Request {
-        n,
-        table,
-        free,
-        r,
-        m,
-    }
 }
 
 fn show_test<W: Write>(out: &mut W, n: u8, table: u16, free: u16, r: u8, m: u8) -> io::Result<()> {
     write!(out, "test")?;
-    let refusal = request::numbers::test_request(asked(n, table, free, r, m));
-    number(out, u64::from(refusal))?;
-    writeln!(out)
+    match Request::new(n, table, free, r, m).test() {
+        Ok(_) => writeln!(out, " 0"),
+        Err(refusal) => writeln!(out, " {refusal}"),
+    }
 }
 
 fn show_check<W: Write>(out: &mut W, q: Request, w: Network) -> io::Result<()> {
     match network_check::check_network(q, w) {
-        Checked::Does => write!(out, "does")?,
-        Checked::Wrong(k) => {
-            write!(out, "row")?;
-            number(out, u64::from(k))?;
-        }
-        Checked::Refused(k) => {
-            write!(out, "refused")?;
-            number(out, u64::from(k))?;
-        }
+        Ok(None) => writeln!(out, "does"),
+        Ok(Some(row)) => writeln!(out, "row {row}"),
+        Err(refusal) => writeln!(out, "refused {refusal}"),
     }
-    writeln!(out)
 }
 
 fn show_same<W: Write>(out: &mut W, a: Network, b: Network) -> io::Result<()> {
@@ -154,18 +135,18 @@ fn exclusive<W: Write>(out: &mut W) -> io::Result<()> {
         literals: literals,
         labels: labels,
     };
-    show_check(out, asked(2, 6, 0, 4, 2), w)?;
-    show_check(out, asked(2, 6, 0, 4, 1), w)?;
-    show_check(out, asked(2, 14, 0, 4, 2), w)?;
-    show_check(out, asked(2, 4, 0, 4, 2), w)?;
-    show_check(out, asked(2, 6, 0, 3, 2), w)?;
-    show_check(out, asked(0, 6, 0, 9, 2), w)?;
-    show_check(out, asked(1, 3, 0, 4, 2), w)?;
+    show_check(out, Request::new(2, 6, 0, 4, 2), w)?;
+    show_check(out, Request::new(2, 6, 0, 4, 1), w)?;
+    show_check(out, Request::new(2, 14, 0, 4, 2), w)?;
+    show_check(out, Request::new(2, 4, 0, 4, 2), w)?;
+    show_check(out, Request::new(2, 6, 0, 3, 2), w)?;
+    show_check(out, Request::new(0, 6, 0, 9, 2), w)?;
+    show_check(out, Request::new(1, 3, 0, 4, 2), w)?;
     let mut above = labels;
     above[2] = 3;
     show_check(
         out,
-        asked(2, 6, 0, 4, 2),
+        Request::new(2, 6, 0, 4, 2),
         Network {
             r: 4,
             literals: literals,
@@ -176,7 +157,7 @@ fn exclusive<W: Write>(out: &mut W) -> io::Result<()> {
     not_lowest[9] = 8;
     show_check(
         out,
-        asked(2, 6, 0, 4, 2),
+        Request::new(2, 6, 0, 4, 2),
         Network {
             r: 4,
             literals: literals,
@@ -184,11 +165,11 @@ fn exclusive<W: Write>(out: &mut W) -> io::Result<()> {
         },
     )?;
     // row 1 is free, so row 2 is the lowest wrong one; then rows 1 and 2; then row 3, which is on; then all rows, and M = 0
-    show_check(out, asked(2, 4, 2, 4, 1), w)?;
-    show_check(out, asked(2, 0, 6, 4, 1), w)?;
-    show_check(out, asked(2, 8, 7, 4, 2), w)?;
-    show_check(out, asked(2, 0, 15, 4, 0), w)?;
-    show_check(out, asked(2, 6, 2, 4, 2), w)?;
+    show_check(out, Request::new(2, 4, 2, 4, 1), w)?;
+    show_check(out, Request::new(2, 0, 6, 4, 1), w)?;
+    show_check(out, Request::new(2, 8, 7, 4, 2), w)?;
+    show_check(out, Request::new(2, 0, 15, 4, 0), w)?;
+    show_check(out, Request::new(2, 6, 2, 4, 2), w)?;
     show_same(out, w, w)?;
     show_same(
         out,
@@ -205,15 +186,15 @@ fn exclusive<W: Write>(out: &mut W) -> io::Result<()> {
 // No switches: P11, and a constant that is off; then a switch entered at its second end.
 fn small<W: Write>(out: &mut W) -> io::Result<()> {
     let joined = network::value::zero_network();
-    show_check(out, asked(1, 3, 0, 0, 0), joined)?;
-    show_check(out, asked(1, 0, 0, 0, 0), joined)?;
+    show_check(out, Request::new(1, 3, 0, 0, 0), joined)?;
+    show_check(out, Request::new(1, 0, 0, 0, 0), joined)?;
     let literals = [0u8; 7];
     let mut labels = [0u8; 16];
     labels[1] = 1;
     labels[3] = 1;
     show_check(
         out,
-        asked(1, 2, 0, 1, 1),
+        Request::new(1, 2, 0, 1, 1),
         Network {
             r: 1,
             literals: literals,
@@ -222,7 +203,7 @@ fn small<W: Write>(out: &mut W) -> io::Result<()> {
     )?;
     show_check(
         out,
-        asked(1, 2, 0, 1, 0),
+        Request::new(1, 2, 0, 1, 0),
         Network {
             r: 1,
             literals: literals,

@@ -9,8 +9,7 @@ use borrow.Author.Tests.{eq-eqb, ne_eqb}
 use Rattle.prelude.specs.Tests.{eq?, eq→eqb, ne→neqb}
 use Rattle.prelude.specs.Lists.{equal_lists}
 use Rattle.prelude.specs.Lists.Laws.{true_equal, false_equal, first_is, first_none, first_within}
-use Rattle.numeral.specs.declared.Word.{Word}
-use Rattle.numeral.specs.Number.{byte_at, literal_at}
+use Rattle.numeral.specs.Number.{Read, byte_at, literal_at}
 use Rattle.numeral.specs.Number.Places.{Ends, literal_there}
 use Rattle.numeral.specs.Number.Laws.{byte_past}
 use Rattle.answer.specs.Lines.{line_end, stands_at, formed, no_form, form_from, form_at}
@@ -108,7 +107,7 @@ module _ (t : List ℕ) (p : ℕ) where
   unfolding form_from
   form_unspaced d = form_turn ∙ rw (ne_eqb (byte_at t p) 32 d)
 
-  module _ (w : Word) (read : w ≡ literal_at t (p + 1)) (space : byte_at t p ≡ 32) where
+  module _ (w : Read) (read : w ≡ literal_at t (p + 1)) (space : byte_at t p ≡ 32) where
     -- and a number after it
     pub form_wordless : w.next ≡ 0 → form_from (length t) t p ≡ no_form
     unfolding form_from
@@ -117,7 +116,7 @@ module _ (t : List ℕ) (p : ℕ) where
     module _ (there : w.next ≡ 0 → ⊥) where
       -- the number ends past p and inside the text
       pub form_ends : Ends t (p + 1) w
-      form_ends = rw read (literal_there t (p + 1) (λ e. there (ap (λ (v : Word). v.next) read ∙ e)))
+      form_ends = rw read (literal_there t (p + 1) (λ e. there (ap (λ (v : Read). v.next) read ∙ e)))
 
       -- a newline ends the line
       pub form_last : byte_at t w.next ≡ 10 → form_from (length t) t p ≡ formed (w.next + 1) (eqb w.value 0)

@@ -14,7 +14,7 @@ use Rattle.prelude.specs.Blocks.{flatten}
 use Rattle.prelude.specs.Blocks.Laws.{flatten_append}
 use Rattle.cnf.specs.Cnf.{Clause, Formula}
 use Rattle.rows.specs.Rows.{Row, set_below, kind_of, by_kind, off_below, row_at, rows_of, literal_on}
-use Rattle.rows.proofs.RowsLaws.{on_off_most}
+use Rattle.rows.proofs.RowsLaws.{on_off_most, off_count}
 use Rattle.rows.specs.declared.Kind.{Kind}
 use Rattle.rows.specs.declared.Kind.TheVariants.{On as on, Off as off, Free as free}
 use Rattle.request.specs.Numbers.{Good, refusal_of}
@@ -24,13 +24,14 @@ use Rattle.formula.specs.Formula.{terminals, P, transitivity, choices, on_row, o
 use Rattle.formula.proofs.FormulaOnRow.{on_row_length, on_row_literals_lem}
 use Rattle.formula.proofs.FormulaOffRow.{off_row_length, off_row_literals_lem}
 use Rattle.formula.proofs.FormulaRows.{variables_in, rows_append}
+use Rattle.formula.specs.Pairs.{pairs_before}
 use Rattle.formula.specs.Count.{on_row_count, off_row_count, network_count, split, variables_before}
 use Rattle.formula.proofs.CountLaws.{weighted_most, rows_below, below_more, variables_below, rows_clauses_lem, split_more, network_length, network_literals_lem}
 use Rattle.formula.specs.Number.{clause_of}
 use Rattle.formula.proofs.NumberLaws.{clause_good}
 use Rattle.formula_clauses.specs.declared.Block.{Block}
 use Rattle.formula_clauses.specs.declared.Block.TheVariants.{Network, On, Off, Free}
-use Rattle.formula_clauses.specs.Bounds.{row_most, variables_few}
+use Rattle.formula_clauses.specs.Bounds.{row_most, sides_most, rows_most_lem, variables_few}
 use Rattle.formula_clauses.specs.Block.{network_clause, block_clauses, block_variables, block_count, block_literals, block_of, clauses_of, blocks_below}
 
 -- how many clauses
@@ -54,6 +55,30 @@ block_literals_lem n r m Free = refl
 -- a request whose test answers 0 is good
 pub request_good : (q : Request) {x : ℕ} → x ≡ refusal_of q → (x ≡ 0) → Good q
 request_good q e z = refusal_good q (sym e ∙ z)
+
+-- bounds on the parts of a row's clauses, for a request that is not refused
+pub row_bounds : (q : Request) → Good q
+    → (2 * q.r * q.n ≤ 240) × (2 * q.r * (2 * q.r) ≤ 900) × (q.m * (2 * q.r + 1) ≤ 465) × (q.m * (2 * q.r * q.n) ≤ 3600) × ((q.m - 1) * (2 * q.r * (2 * q.r)) ≤ 12600)
+row_bounds q g = row_most q.n q.r q.m (omega (arith, g.n_high), omega (arith, g.r_high), omega (arith, g.m_high))
+
+pub side_bounds : (q : Request) → Good q → (q.r * (q.n * 2) ≤ 240) × (pairs_before (2 * q.r + 2) (2 * q.r + 2) ≤ 512)
+side_bounds q g = sides_most q.n q.r (omega (arith, g.n_high), omega (arith, g.r_high))
+
+-- the rows that are on and off of those below row k, by the ones of the two numbers: so much for each
+pub weighed : (q : Request) (k on_rows free_rows a b : ℕ) → Good q → k ≤ 2 ^ q.n → a ≤ 50000 → b ≤ 50000
+    → on_rows ≡ set_below q.table k → free_rows ≡ set_below q.free k
+    → (on_rows + free_rows ≤ k)
+    × (on_rows * a + (k - on_rows - free_rows) * b ≤ 800000)
+    × (on_rows * a + (k - on_rows - free_rows) * b ≡ split q a b k)
+unfolding split
+weighed q k on_rows free_rows a b g h x y t f =
+    let e = off_count q k (λ j l. g.one_kind j (omega arith)) in
+    let r = rows_high q.n g.n_high in
+    let o : k - on_rows - free_rows ≡ off_below q k = omega arith in (
+      omega arith,
+      rows_most_lem on_rows (k - on_rows - free_rows) a b (omega arith) x y,
+      ap₂ (λ (m n : ℕ). m * a + n * b) t o,
+    )
 
 -- a clause of groups 1 and 2: none of a refused request, none past the last
 pub network_refused : (q : Request) (k x : ℕ) → x ≡ refusal_of q → (x ≡ 0 → ⊥) → [] ≡ network_clause q k

@@ -1,10 +1,10 @@
 -- Laws of the store: literals written on, that the part which pair k names is clause k, and what each refusal answers and leaves.
 -- Assumes nothing.
-use Rattle.std.specs.Prelude.{◌≡◌}
+use Rattle.std.specs.Prelude.{◌≡◌, Ok, Err}
 use Rattle.std.proofs.Math.Path.{refl, sym, ap, ap₂}
 use Rattle.std.proofs.Common.{◌∙◌, subst, arith, take_all, drop_at}
 use mathlib.Core.List.{List, [], ◌∷◌, ◌++◌, append_assoc, map-append}
-use Rattle.std.proofs.Math.Logic.{⊎_elim}
+use Rattle.std.proofs.Math.Logic.{◌⊎◌, inl, inr, ⊎_elim}
 use Prim.Native.Nat.{ℕ, suc, ◌+◌, ◌-◌, ◌*◌, ◌^◌, ◌≤◌, ◌<◌}
 use Rattle.std.proofs.Math.Numerals.{add-one}
 use Rattle.std.proofs.Math.IntN.{ℤ}
@@ -19,20 +19,24 @@ use Rattle.prelude.specs.Blocks.Laws.{flatten_append, flatten_more, flatten_room
 use Rattle.prelude.specs.Written.{written}
 use Rattle.prelude.specs.Written.Laws.{written_none, written_append}
 use Rattle.cnf.specs.Cnf.{signed_of, Clause, Formula}
-use Rattle.request.specs.Numbers.{Good}
+use Rattle.request.specs.Numbers.{Good, refusal_of}
 use Rattle.request.proofs.NumbersLaws.{good_refusal, refusal_good}
 use Rattle.request.specs.declared.Request.{Request}
 use Rattle.formula.specs.Clause.{Low}
 use Rattle.formula.specs.Formula.{formula_of}
-use Rattle.formula.specs.Count.{variable_count, clause_count, literal_count}
+use Rattle.formula.specs.Count.{variable_count, counts_of}
+use Rattle.request.proofs.NumbersLaws.{refusal_most}
 use Rattle.formula.proofs.CountLaws.{clause_count_lem, literal_count_lem}
 use Rattle.formula_clauses.specs.declared.Block.{Block}
-use Rattle.formula_clauses.specs.Block.{block_clauses, Fits, block_of, clauses_of, blocks_below, block_formula}
-use Rattle.formula_clauses.specs.Block.Laws.{blocks_all, block_within, block_each}
+use Rattle.formula_clauses.specs.Block.{block_clauses, block_count, block_literals, Fits, block_of, clauses_of, blocks_below, block_formula}
+use Rattle.formula_clauses.specs.Block.Laws.{block_length, block_literals_lem, blocks_all, block_within, block_each}
 use Rattle.formula.proofs.FormulaRange.{ClauseIn, range, variables_most_lem}
-use Rattle.formula_clauses.specs.declared.store.Stored.{Stored}
-use Rattle.formula_clauses.specs.declared.store.StoredBlock.{StoredBlock}
-use Rattle.formula_clauses.specs.Store.{signs, stored_variables, room_refusal, store_refusal, block_refusal, block_sizes, block_literals_in, block_pairs_in, store_sizes, stored_literals, stored_pairs, Roomy, BlockRoom}
+use Rattle.formula.specs.declared.Sizes.{Sizes}
+use Rattle.formula_clauses.specs.declared.store.BlockSizes.{BlockSizes}
+use Rattle.refusal.specs.declared.Refusal.{Refusal}
+use Rattle.refusal.specs.Refusal.{number, number_of, unless}
+use Rattle.refusal.specs.Refusal.Laws.{number_some, refused_by, taken_by, unless-ok, unless-number_of}
+use Rattle.formula_clauses.specs.Store.{signs, room_refusal, store_refusal, block_refusal, block_sizes, block_literals_in, block_pairs_in, store_sizes, stored_literals, stored_pairs, Roomy, BlockRoom}
 
 -- signed literals are as many as the literals
 pub signs_length : (c : Clause) → length (signs c) ≡ length c
@@ -121,13 +125,13 @@ block_low q b j g h l =
     each_then _ _ (get_or (clauses_of q b) j []) (λ x k. let u = k.1 in omega arith)
     (each_out (ClauseIn (variable_count q)) (clauses_of q b) [] (block_each q (ClauseIn (variable_count q)) b h (range q)) j l)
 
--- room for block b of a good request, from what is known of its clauses
-pub block_room : (q : Request) (b first from literals pairs : ℕ) {x : Block} → Good q → b ≤ 2 ^ q.n → x ≡ block_of q b → Fits q.n x
-    → from + length (flatten (clauses_of q b)) < 4294967296 → first + length (clauses_of q b) < 4294967296
-    → from + length (flatten (clauses_of q b)) ≤ literals → 2 * (first + length (clauses_of q b)) ≤ pairs
+-- room for the clauses of a block of a good request, from what is known of them
+pub clauses_room : (q : Request) (F : Formula) (first from literals pairs : ℕ) {x : Block} → Good q → block_clauses q.n q.r q.m x ≡ F → Fits q.n x
+    → ((j : ℕ) → j < length F → Low (get_or F j []))
+    → from + length (flatten F) < 4294967296 → first + length F < 4294967296
+    → from + length (flatten F) ≤ literals → 2 * (first + length F) ≤ pairs
     → BlockRoom q.n q.r q.m x first from literals pairs
-block_room q b first from literals pairs {x} g h e fits small few long wide =
-    let same : block_clauses q.n q.r q.m x ≡ clauses_of q b = ap (block_clauses q.n q.r q.m) e in
+clauses_room q F first from literals pairs {x} g same fits low small few long wide =
     let l = ap length same in
     let f = ap (λ (F : Formula). length (flatten F)) same in
     record {
@@ -136,12 +140,19 @@ block_room q b first from literals pairs {x} g h e fits small few long wide =
       r_high = omega (arith, g.r_high);
       m_high = omega (arith, g.m_high);
       fits = fits;
-      low = λ j k. subst (λ (F : Formula). Low (get_or F j [])) (sym same) (block_low q b j g h (omega arith));
+      low = λ j k. subst (λ (F : Formula). Low (get_or F j [])) (sym same) (low j (omega arith));
       small = omega arith;
       few = omega arith;
       literals_long = omega arith;
       pairs_long = omega arith;
     }
+
+pub block_room : (q : Request) (b first from literals pairs : ℕ) {x : Block} → Good q → b ≤ 2 ^ q.n → x ≡ block_of q b → Fits q.n x
+    → from + length (flatten (clauses_of q b)) < 4294967296 → first + length (clauses_of q b) < 4294967296
+    → from + length (flatten (clauses_of q b)) ≤ literals → 2 * (first + length (clauses_of q b)) ≤ pairs
+    → BlockRoom q.n q.r q.m x first from literals pairs
+block_room q b first from literals pairs g h e fits small few long wide =
+    clauses_room q (clauses_of q b) first from literals pairs g (ap (block_clauses q.n q.r q.m) e) fits (λ j k. block_low q b j g h k) small few long wide
 
 -- blocks stored one after the other: the slices have the blocks below b
 module _ (q : Request) (literals₀ : List ℤ) (pairs₀ : List ℕ) where
@@ -302,25 +313,65 @@ module _ (x T C literals pairs : ℕ) where
       (λ (d : x ≡ 0 → ⊥). absurd (d (sym (room_request d) ∙ e)))
       (eq? x 0)
 
+-- the refusal of room for clauses is one of a request's, or 7 or 8
+pub room_most : (x T C literals pairs : ℕ) → x ≤ 24 → room_refusal x T C literals pairs ≤ 24
+unfolding room_refusal
+room_most x T C literals pairs h =
+    ⊎_elim
+    (λ (z : x ≡ 0).
+    ⊎_elim (λ (l : T ≤ literals).
+    ⊎_elim (λ (p : 2 * C ≤ pairs). omega (arith, room_none x T C literals pairs z l p))
+    (λ (p : pairs < 2 * C). omega (arith, room_pairs x T C literals pairs z l p)) (le? (2 * C) pairs))
+    (λ (l : literals < T). omega (arith, room_literals x T C literals pairs z l)) (le? T literals))
+    (λ (d : x ≡ 0 → ⊥). omega (arith, room_request x T C literals pairs d)) (eq? x 0)
+
+-- what a step that is refused, or that is not, says of the whole
+module _ {A : Type 0} (q : Request) (T C literals pairs : ℕ) (x : A) where
+  abbrev pub Refused : Refusal → Type 0
+  Refused e =
+      (Err e ≡ unless (room_refusal (refusal_of q) T C literals pairs) x) × (room_refusal (refusal_of q) T C literals pairs ≡ 0 → ⊥)
+
+  refused_with : (e : Refusal) → number e ≡ room_refusal (refusal_of q) T C literals pairs → Refused e
+  refused_with e h = (refused_by e _ x h, λ z. number_some e (h ∙ z))
+
+  -- a request that is refused
+  pub request_refused : (e : Refusal) → number e ≡ refusal_of q → Refused e
+  request_refused e h = refused_with e (h ∙ sym (room_request _ T C literals pairs (λ z. number_some e (h ∙ z))))
+
+  -- slices without room
+  pub room_refused : (e : Refusal) → 0 ≡ refusal_of q → Err e ≡ unless {A = Unit {0}} (room_refusal 0 T C literals pairs) tt → Refused e
+  room_refused e z h =
+      refused_with e
+      (ap number_of h ∙ unless-number_of {A = Unit {0}} _ tt (room_most 0 T C literals pairs (omega arith))
+      ∙ ap (λ (n : ℕ). room_refusal n T C literals pairs) z)
+
+  -- neither
+  pub room_taken : 0 ≡ refusal_of q → Ok tt ≡ unless {A = Unit {0}} (room_refusal 0 T C literals pairs) tt
+      → (room_refusal (refusal_of q) T C literals pairs ≡ 0) × (Ok x ≡ unless (room_refusal (refusal_of q) T C literals pairs) x)
+  room_taken z h =
+      let n : room_refusal (refusal_of q) T C literals pairs ≡ 0 = ap (λ (n : ℕ). room_refusal n T C literals pairs) (sym z) ∙ (unless-ok _ _ _ (sym h)).0 in
+      (n, taken_by _ x (sym n))
+
 module _ (q : Request) (literals pairs : ℕ) where
   -- the sizes with a refusal
-  pub sizes_refused : (x : ℕ) → store_refusal q literals pairs ≡ x → (x ≡ 0 → ⊥)
-      → record { refusal = x; variables = 0; clauses = 0; literals = 0 } ≡ store_sizes q literals pairs
+  pub sizes_refused : (e : Refusal) → number e ≡ store_refusal q literals pairs → Err e ≡ store_sizes q literals pairs
   unfolding store_sizes
-  sizes_refused x e d = sym (rw (ne_eqb (store_refusal q literals pairs) 0 (λ z. d (sym e ∙ z)), e))
+  sizes_refused e h = refused_by e (store_refusal q literals pairs) (counts_of q) h
 
   -- and without
-  pub sizes_none : store_refusal q literals pairs ≡ 0
-      → store_sizes q literals pairs ≡ record { refusal = 0; variables = stored_variables q; clauses = clause_count q; literals = literal_count q }
+  pub sizes_none : store_refusal q literals pairs ≡ 0 → store_sizes q literals pairs ≡ Ok (counts_of q)
   unfolding store_sizes
-  sizes_none e = rw (eq-eqb (store_refusal q literals pairs) 0 e)
+  sizes_none e = rw e
+
+  -- and back
+  pub sizes_ok : (x : Sizes) → Ok x ≡ store_sizes q literals pairs → (store_refusal q literals pairs ≡ 0) × (x ≡ counts_of q)
+  unfolding store_sizes
+  sizes_ok x e = let u = unless-ok (store_refusal q literals pairs) (counts_of q) x (sym e) in (u.0, sym u.1)
 
   -- their refusal is that of storing
-  pub sizes_refusal : (store_sizes q literals pairs).refusal ≡ store_refusal q literals pairs
-  sizes_refusal =
-      ⊎_elim (λ (z : store_refusal q literals pairs ≡ 0). ap (λ (x : Stored). x.refusal) (sizes_none z) ∙ sym z)
-      (λ (d : store_refusal q literals pairs ≡ 0 → ⊥). ap (λ (x : Stored). x.refusal) (sym (sizes_refused _ refl d)))
-      (eq? (store_refusal q literals pairs) 0)
+  pub sizes_refusal : number_of (store_sizes q literals pairs) ≡ store_refusal q literals pairs
+  unfolding store_sizes
+  sizes_refusal = unless-number_of (store_refusal q literals pairs) (counts_of q) (room_most _ _ _ _ _ (refusal_most q))
 
 module _ (q : Request) (literals : List ℤ) (pairs : List ℕ) where
   -- a refusal leaves both slices
@@ -345,17 +396,45 @@ pub block_beyond : (q : Request) (b : ℕ) → Good q → 2 ^ q.n < b → block_
 unfolding block_formula
 block_beyond q b g h = rw (good_refusal q g, lt-leb b (2 ^ q.n) h)
 
+-- the same for a block that may be past the last
+pub formula_room : (q : Request) (b literals pairs : ℕ) {x : Block} → Good q → block_clauses q.n q.r q.m x ≡ block_formula q b → Fits q.n x
+    → length (flatten (block_formula q b)) < 4294967296 → length (block_formula q b) < 4294967296
+    → length (flatten (block_formula q b)) ≤ literals → 2 * length (block_formula q b) ≤ pairs
+    → BlockRoom q.n q.r q.m x 0 0 literals pairs
+formula_room q b literals pairs g same fits small few long wide =
+    clauses_room q (block_formula q b) 0 0 literals pairs g same fits (low (le? b (2 ^ q.n))) (omega arith) (omega arith) (omega arith) (omega arith)
+  where
+    low : (b ≤ 2 ^ q.n) ⊎ (2 ^ q.n < b) → (j : ℕ) → j < length (block_formula q b) → Low (get_or (block_formula q b) j [])
+    low (inl h) j l =
+        let e = block_there q b g h in
+        let k = ap length e in
+        subst (λ (F : Formula). Low (get_or F j [])) (sym e) (block_low q b j g h (omega arith))
+    low (inr h) j l = let k = ap length (block_beyond q b g h) in absurd (omega arith)
+
+-- how many clauses and literals it has
+pub formula_counted : (q : Request) (b : ℕ) (x : Block) → block_clauses q.n q.r q.m x ≡ block_formula q b
+    → (block_count q.n q.r q.m x ≡ length (block_formula q b)) × (block_literals q.n q.r q.m x ≡ length (flatten (block_formula q b)))
+formula_counted q b x same = (
+  sym (block_length q.n q.r q.m x) ∙ ap length same,
+  sym (block_literals_lem q.n q.r q.m x) ∙ ap (λ (F : Formula). length (flatten F)) same,
+)
+
 module _ (q : Request) (b literals pairs : ℕ) where
   -- the sizes of a block with a refusal, and without
-  pub block_refused : (x : ℕ) → block_refusal q b literals pairs ≡ x → (x ≡ 0 → ⊥)
-      → record { refusal = x; clauses = 0; literals = 0 } ≡ block_sizes q b literals pairs
+  pub block_refused : (e : Refusal) → number e ≡ block_refusal q b literals pairs → Err e ≡ block_sizes q b literals pairs
   unfolding block_sizes
-  block_refused x e d = sym (rw (ne_eqb (block_refusal q b literals pairs) 0 (λ z. d (sym e ∙ z)), e))
+  block_refused e h = refused_by e (block_refusal q b literals pairs) _ h
 
   pub block_taken : block_refusal q b literals pairs ≡ 0
-      → block_sizes q b literals pairs ≡ record { refusal = 0; clauses = length (block_formula q b); literals = length (flatten (block_formula q b)) }
+      → block_sizes q b literals pairs ≡ Ok (record { clauses = length (block_formula q b); literals = length (flatten (block_formula q b)) })
   unfolding block_sizes
-  block_taken e = rw (eq-eqb (block_refusal q b literals pairs) 0 e)
+  block_taken e = rw e
+
+  -- and back
+  pub block_ok : (x : BlockSizes) → Ok x ≡ block_sizes q b literals pairs
+      → (block_refusal q b literals pairs ≡ 0) × (x ≡ record { clauses = length (block_formula q b); literals = length (flatten (block_formula q b)) })
+  unfolding block_sizes
+  block_ok x e = let u = unless-ok (block_refusal q b literals pairs) _ x (sym e) in (u.0, sym u.1)
 
   -- where there are clauses, nothing is refused, and the block is there
   pub record Some : Type 0 where
@@ -363,21 +442,18 @@ module _ (q : Request) (b literals pairs : ℕ) where
     pub good : Good q
     pub there : b ≤ 2 ^ q.n
 
-  pub block_some : ((block_sizes q b literals pairs).clauses ≡ 0 → ⊥) → Some
-  block_some d =
-      let x : ℕ = block_refusal q b literals pairs in
-      ⊎_elim (λ (e : x ≡ 0).
-      let g = refusal_good q (none_taken _ _ _ _ _ e).request in
+  pub block_some : (x : BlockSizes) → Ok x ≡ block_sizes q b literals pairs → (x.clauses ≡ 0 → ⊥) → Some
+  block_some x h d =
+      let u = block_ok x h in
+      let g = refusal_good q (none_taken _ _ _ _ _ u.0).request in
       record {
-        none_refused = e;
+        none_refused = u.0;
         good = g;
         there =
             ⊎_elim (λ (h : b ≤ 2 ^ q.n). h)
-            (λ (h : 2 ^ q.n < b).
-            absurd (d (ap (λ (s : StoredBlock). s.clauses) (block_taken e) ∙ ap length (block_beyond q b g h))))
+            (λ (h : 2 ^ q.n < b). absurd (d (ap (λ (s : BlockSizes). s.clauses) u.1 ∙ ap length (block_beyond q b g h))))
             (le? b (2 ^ q.n));
-      })
-      (λ (f : x ≡ 0 → ⊥). absurd (d (ap (λ (s : StoredBlock). s.clauses) (sym (block_refused x refl f))))) (eq? x 0)
+      }
 
 module _ (q : Request) (b : ℕ) (literals : List ℤ) (pairs : List ℕ) where
   -- the slices where the block's clauses are stored
@@ -388,14 +464,14 @@ module _ (q : Request) (b : ℕ) (literals : List ℤ) (pairs : List ℕ) where
   block_stored e = let f = eq-eqb (block_refusal q b (length literals) (length pairs)) 0 e in (rw f, rw f)
 
   -- and where there are none: a refusal, or a block of no clauses
-  pub block_stays : (block_sizes q b (length literals) (length pairs)).clauses ≡ 0
+  pub block_stays : ((x : BlockSizes) → Ok x ≡ block_sizes q b (length literals) (length pairs) → x.clauses ≡ 0)
       → (literals ≡ block_literals_in q b (length pairs) literals) × (pairs ≡ block_pairs_in q b (length literals) pairs)
   unfolding block_literals_in block_pairs_in flatten pairs_from
   block_stays n =
       let x : ℕ = block_refusal q b (length literals) (length pairs) in
       ⊎_elim (λ (e : x ≡ 0).
       let f = eq-eqb x 0 e in
-      let z = nothing (block_formula q b) (sym (ap (λ (s : StoredBlock). s.clauses) (block_taken q b (length literals) (length pairs) e)) ∙ n) in (
+      let z = nothing (block_formula q b) (n _ (sym (block_taken q b (length literals) (length pairs) e))) in (
         rw f (sym (ap (λ (F : Formula). written literals 0 (signs (flatten F))) z ∙ written_none literals 0)),
         rw f (sym (ap (λ (F : Formula). written pairs 0 (pairs_from 0 F)) z ∙ written_none pairs 0)),
       ))
@@ -404,3 +480,8 @@ module _ (q : Request) (b : ℕ) (literals : List ℤ) (pairs : List ℕ) where
       nothing : (F : Formula) → length F ≡ 0 → F ≡ []
       nothing [] e = refl
       nothing (c ∷ F) e = absurd (omega arith)
+
+  -- so a refusal leaves both
+  pub block_left : (block_refusal q b (length literals) (length pairs) ≡ 0 → ⊥)
+      → (literals ≡ block_literals_in q b (length pairs) literals) × (pairs ≡ block_pairs_in q b (length literals) pairs)
+  block_left d = block_stays (λ x h. absurd (d (block_ok q b (length literals) (length pairs) x h).0))

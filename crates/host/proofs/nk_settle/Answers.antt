@@ -34,4 +34,4 @@ module _ (q : Request) (answer refutation : List ℕ) (before : Lent) (x : Settl
 pub returns-clause-least : goal.returns-clause-least
 returns-clause-least c =
     least_bytes (asked c.args.n c.args.table c.args.free c.args.k c.args.m) _ _ _ c.settle-settled.result
-    c.settle-settled.ensures.settled c.settle-settled.ensures.least _ c.verdict_code.ensures _ c.network_bytes.ensures
+    (rw c.new.ensures at c.settle-settled.ensures.settled) (rw c.new.ensures at c.settle-settled.ensures.least) _ c.verdict_code.ensures _ c.network_bytes.ensures

@@ -8,26 +8,26 @@ use Rattle.host.proofs.nk_sizes.Goals as goal
 entry : (l k : List ℕ) (i d : ℕ) → k ≡ l → get_or l i d ≡ get_or k i d
 entry l k i d e = ap (λ (x : List ℕ). get_or x i d) (sym e)
 
-pub returns-then-sizes-ne0-clause-refusal : goal.returns-then-sizes-ne0-clause-refusal
-returns-then-sizes-ne0-clause-refusal c = (sizes_none _ _ c.count-sizes.ensures c.if-sizes-ne0.true).0
+pub returns-in-Err-clause-refusal : goal.returns-in-Err-clause-refusal
+returns-in-Err-clause-refusal c = c.from.ensures ∙ (sizes_none _ _ (rw c.new.ensures at c.in-Err.ensures)).0
 
-pub returns-then-sizes-ne0-clause-variables : goal.returns-then-sizes-ne0-clause-variables
-returns-then-sizes-ne0-clause-variables c = entry _ _ 0 c.args.variables.now (sizes_none _ _ c.count-sizes.ensures c.if-sizes-ne0.true).1
+pub returns-in-Err-clause-variables : goal.returns-in-Err-clause-variables
+returns-in-Err-clause-variables c = entry _ _ 0 c.args.variables.now (sizes_none _ _ (rw c.new.ensures at c.in-Err.ensures)).1
 
-pub returns-then-sizes-ne0-clause-clauses : goal.returns-then-sizes-ne0-clause-clauses
-returns-then-sizes-ne0-clause-clauses c = entry _ _ 1 c.args.clauses.now (sizes_none _ _ c.count-sizes.ensures c.if-sizes-ne0.true).1
+pub returns-in-Err-clause-clauses : goal.returns-in-Err-clause-clauses
+returns-in-Err-clause-clauses c = entry _ _ 1 c.args.clauses.now (sizes_none _ _ (rw c.new.ensures at c.in-Err.ensures)).1
 
-pub returns-then-sizes-ne0-clause-literals : goal.returns-then-sizes-ne0-clause-literals
-returns-then-sizes-ne0-clause-literals c = entry _ _ 2 c.args.literals.now (sizes_none _ _ c.count-sizes.ensures c.if-sizes-ne0.true).1
+pub returns-in-Err-clause-literals : goal.returns-in-Err-clause-literals
+returns-in-Err-clause-literals c = entry _ _ 2 c.args.literals.now (sizes_none _ _ (rw c.new.ensures at c.in-Err.ensures)).1
 
-pub returns-clause-refusal : goal.returns-clause-refusal
-returns-clause-refusal c = sym c.if-sizes-ne0.false ∙ (sizes_numbers _ _ c.count-sizes.ensures c.if-sizes-ne0.false).0
+pub returns-in-Ok-clause-refusal : goal.returns-in-Ok-clause-refusal
+returns-in-Ok-clause-refusal c = (sizes_numbers _ _ (rw c.new.ensures at c.in-Ok.ensures)).0
 
-pub returns-clause-variables : goal.returns-clause-variables
-returns-clause-variables c = entry _ _ 0 c.args.variables.now (sizes_numbers _ _ c.count-sizes.ensures c.if-sizes-ne0.false).1
+pub returns-in-Ok-clause-variables : goal.returns-in-Ok-clause-variables
+returns-in-Ok-clause-variables c = entry _ _ 0 c.args.variables.now (sizes_numbers _ _ (rw c.new.ensures at c.in-Ok.ensures)).1
 
-pub returns-clause-clauses : goal.returns-clause-clauses
-returns-clause-clauses c = entry _ _ 1 c.args.clauses.now (sizes_numbers _ _ c.count-sizes.ensures c.if-sizes-ne0.false).1
+pub returns-in-Ok-clause-clauses : goal.returns-in-Ok-clause-clauses
+returns-in-Ok-clause-clauses c = entry _ _ 1 c.args.clauses.now (sizes_numbers _ _ (rw c.new.ensures at c.in-Ok.ensures)).1
 
-pub returns-clause-literals : goal.returns-clause-literals
-returns-clause-literals c = entry _ _ 2 c.args.literals.now (sizes_numbers _ _ c.count-sizes.ensures c.if-sizes-ne0.false).1
+pub returns-in-Ok-clause-literals : goal.returns-in-Ok-clause-literals
+returns-in-Ok-clause-literals c = entry _ _ 2 c.args.literals.now (sizes_numbers _ _ (rw c.new.ensures at c.in-Ok.ensures)).1

@@ -10,7 +10,7 @@ use Rattle.network.specs.declared.Network.{Network}
 use Rattle.host.specs.Bytes.{network_bytes, network_of}
 
 -- the k entries of a list from a on, in a list where they stand
-part_entries : (a k : ℕ) (whole l : List ℕ) → length l ≡ k → ((i : ℕ) → i < k → get_or whole (a + i) 0 ≡ get_or l i 0)
+pub part_entries : (a k : ℕ) (whole l : List ℕ) → length l ≡ k → ((i : ℕ) → i < k → get_or whole (a + i) 0 ≡ get_or l i 0)
     → tab a k (λ i. get_or whole i 0) ≡ l
 part_entries a k whole l h f =
     let t = length_tab a k (λ i. get_or whole i 0) in

@@ -1,9 +1,12 @@
 -- The entries' numbers: V, C and T, and the code of each verdict. Assumes nothing.
-use Rattle.std.specs.Prelude.{◌≡◌, refl, [], ◌∷◌, ℕ}
+use Rattle.std.specs.Prelude.{◌≡◌, refl, [], ◌∷◌, ℕ, Ok, Err}
 use Rattle.std.proofs.Common.{sym, ap, ◌∙◌, arith, eq-eqb, ne_eqb}
+use Rattle.refusal.specs.declared.Refusal.{Refusal}
+use Rattle.refusal.specs.Refusal.{number, number_of}
+use Rattle.refusal.specs.Refusal.Laws.{number_some}
 use Rattle.request.specs.declared.Request.{Request}
 use Rattle.request.specs.Numbers.{refusal_of}
-use Rattle.formula.specs.Count.{sizes_of}
+use Rattle.formula.specs.Count.{counts_of, sizes_of}
 use Rattle.formula.proofs.CountLaws.{clause_count_lem, literal_count_lem, sizes_taken, sizes_refusal}
 use Rattle.formula.specs.declared.Sizes.{Sizes}
 use Rattle.settle.specs.declared.Verdict.{Verdict}
@@ -12,24 +15,24 @@ use Rattle.settle.specs.Settle.{verdict_values}
 use Rattle.host.specs.Entries.{size_numbers, verdict_code}
 
 -- V, C and T of a request that is taken
-pub sizes_numbers : (q : Request) (x : Sizes) → x ≡ sizes_of q → x.refusal ≡ 0
-    → (x.refusal ≡ refusal_of q) × (size_numbers q ≡ x.variables ∷ x.clauses ∷ x.literals ∷ [])
+pub sizes_numbers : (q : Request) (x : Sizes) → Ok x ≡ sizes_of q
+    → (0 ≡ refusal_of q) × (size_numbers q ≡ x.variables ∷ x.clauses ∷ x.literals ∷ [])
 unfolding size_numbers
-sizes_numbers q x e z =
-    let r : x.refusal ≡ refusal_of q = ap (λ (y : Sizes). y.refusal) e ∙ sizes_refusal q in
-    let o : refusal_of q ≡ 0 = sym r ∙ z in
-    let f = e ∙ sizes_taken q o in
+sizes_numbers q x e =
+    let r : 0 ≡ refusal_of q = ap (number_of {A = Sizes}) e ∙ sizes_refusal q in
+    let t : Ok x ≡ Ok (counts_of q) = e ∙ sizes_taken q (sym r) in
+    let f : x ≡ counts_of q = cc in
     let v = ap (λ (y : Sizes). y.variables) f in
     let c = ap (λ (y : Sizes). y.clauses) f in
     let l = ap (λ (y : Sizes). y.literals) f in
-    (r, rw (eq-eqb (refusal_of q) 0 o, clause_count_lem q, literal_count_lem q, v, c, l))
+    (r, rw (eq-eqb (refusal_of q) 0 (sym r), clause_count_lem q, literal_count_lem q, v, c, l))
 
 -- and none of one that is refused
-pub sizes_none : (q : Request) (x : Sizes) → x ≡ sizes_of q → (x.refusal ≡ 0 → ⊥) → (x.refusal ≡ refusal_of q) × (size_numbers q ≡ [])
+pub sizes_none : (q : Request) (f : Refusal) → Err f ≡ sizes_of q → (number f ≡ refusal_of q) × (size_numbers q ≡ [])
 unfolding size_numbers
-sizes_none q x e d =
-    let r : x.refusal ≡ refusal_of q = ap (λ (y : Sizes). y.refusal) e ∙ sizes_refusal q in
-    (r, rw (ne_eqb (refusal_of q) 0 (λ z. d (r ∙ z))))
+sizes_none q f e =
+    let r : number f ≡ refusal_of q = ap (number_of {A = Sizes}) e ∙ sizes_refusal q in
+    (r, rw (ne_eqb (refusal_of q) 0 (λ z. number_some f (r ∙ z))))
 
 -- only "least" has the code 0
 pub code_least : (k : ℕ) (v : Verdict) → verdict_code (verdict_values k v) ≡ 0 → v ≡ Least

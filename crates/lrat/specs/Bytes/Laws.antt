@@ -8,8 +8,7 @@ use Rattle.std.proofs.lemmas.List.{length-replicate}
 use borrow.Author.Tests.{eq-eqb, ne_eqb, le-leb, lt-leb, lt-ltb, le-ltb}
 use Rattle.prelude.specs.Tests.{eq?, le?}
 use Rattle.cnf.specs.Cnf.{Clause}
-use Rattle.numeral.specs.declared.Word.{Word}
-use Rattle.numeral.specs.Number.{byte_at, literal_at}
+use Rattle.numeral.specs.Number.{Read, byte_at, literal_at}
 use Rattle.lrat.specs.declared.LiteralsRead.{LiteralsRead}
 use Rattle.lrat.specs.Rules.{Values, unset, assign, literal_value, falsified, named, literals_good}
 use Rattle.lrat.specs.Words.{literal, literal_of, literals_at, run, run_at}
@@ -166,7 +165,7 @@ module _ {g variables : ℕ} {t : List ℕ} {at p : ℕ} {good : Bool} {vs : Lis
   pub literals_unspaced : (byte_at t p ≡ 32 → ⊥) → (r : LiteralsRead) → r.end ≡ 0 → r.next ≡ 0 → AfterLiterals g variables t at r vs
   literals_unspaced d = bad_run (run_unspaced literal_at literal_reads t p d)
 
-  module _ (w : Word) (is : w ≡ literal_at t (p + 1)) (space : byte_at t p ≡ 32) where
+  module _ (w : Read) (is : w ≡ literal_at t (p + 1)) (space : byte_at t p ≡ 32) where
     pub literals_wordless : w.next ≡ 0 → (r : LiteralsRead) → r.end ≡ 0 → r.next ≡ 0 → AfterLiterals g variables t at r vs
     literals_wordless e = bad_run (run_wordless literal_at literal_reads t p w is space e)
 

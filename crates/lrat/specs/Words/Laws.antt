@@ -7,8 +7,7 @@ use Prim.Native.Nat.{ℕ, zero, suc, ◌+◌, ◌≤◌, ◌<◌}
 use Rattle.std.proofs.Math.ListN.{length}
 use borrow.Author.Tests.{eq-eqb, ne_eqb}
 use Rattle.prelude.specs.Tests.{eq?}
-use Rattle.numeral.specs.declared.Word.{Word}
-use Rattle.numeral.specs.Number.{byte_at, no_word, literal_at}
+use Rattle.numeral.specs.Number.{Read, byte_at, no_word, literal_at}
 use Rattle.numeral.specs.Number.Laws.{byte_past}
 use Rattle.numeral.specs.Number.Places.{Ends, number_ways, literal_ways}
 use Rattle.lrat.specs.Words.{Reader, plain_at, words_from, words_at, literal_of, literals_at, ids_at, Run, run, run_from, run_at}
@@ -26,11 +25,11 @@ literal_reads t p = literal_ways t p
 module _ (read : Reader) (reads : Reads read) where
   -- a number other than 0 was read
   pub read_ends : (t : List ℕ) (p : ℕ) → ((read t p).value ≡ 0 → ⊥) → Ends t p (read t p)
-  read_ends t p d = ⊎_elim (λ (e : read t p ≡ no_word). absurd (d (ap (λ (w : Word). w.value) e))) (λ (r : Ends t p (read t p)). r) (reads t p)
+  read_ends t p d = ⊎_elim (λ (e : read t p ≡ no_word). absurd (d (ap (λ (w : Read). w.value) e))) (λ (r : Ends t p (read t p)). r) (reads t p)
 
   -- a number that has an end was read
   pub read_there : (t : List ℕ) (p : ℕ) → ((read t p).next ≡ 0 → ⊥) → Ends t p (read t p)
-  read_there t p d = ⊎_elim (λ (e : read t p ≡ no_word). absurd (d (ap (λ (w : Word). w.next) e))) (λ (r : Ends t p (read t p)). r) (reads t p)
+  read_there t p d = ⊎_elim (λ (e : read t p ≡ no_word). absurd (d (ap (λ (w : Read). w.next) e))) (λ (r : Ends t p (read t p)). r) (reads t p)
 
   -- ---- the numbers, one by one
   words_past : (f : ℕ) (t : List ℕ) (p : ℕ) → length t ≤ p → words_from read f t p ≡ []
@@ -56,9 +55,9 @@ module _ (read : Reader) (reads : Reads read) where
       go (inl e) rest = rw (eq-eqb (read t (p + 1)).value 0 e)
       go (inr d) rest =
           let r = read_ends t (p + 1) d in
-          rw (ne_eqb (read t (p + 1)).value 0 d) (ap (λ (l : List Word). read t (p + 1) ∷ l) (rest (omega (arith, r.low)) (omega (arith, r.low))))
+          rw (ne_eqb (read t (p + 1)).value 0 d) (ap (λ (l : List Read). read t (p + 1) ∷ l) (rest (omega (arith, r.low)) (omega (arith, r.low))))
 
-  module _ (t : List ℕ) (p : ℕ) (w : Word) (is : w ≡ read t (p + 1)) where
+  module _ (t : List ℕ) (p : ℕ) (w : Read) (is : w ≡ read t (p + 1)) where
     words_turn : words_at read t p ≡ words_from read (suc (length t)) t p
     unfolding words_at
     words_turn = words_same (length t) (suc (length t)) t p (omega arith) (omega arith)
@@ -73,10 +72,10 @@ module _ (read : Reader) (reads : Reads read) where
 
     -- it ends inside the text
     pub word_ends : (w.value ≡ 0 → ⊥) → Ends t (p + 1) w
-    word_ends d = rw is (read_ends t (p + 1) (λ e. d (ap (λ (v : Word). v.value) is ∙ e)))
+    word_ends d = rw is (read_ends t (p + 1) (λ e. d (ap (λ (v : Read). v.value) is ∙ e)))
 
     pub word_there : (w.next ≡ 0 → ⊥) → Ends t (p + 1) w
-    word_there d = rw is (read_there t (p + 1) (λ e. d (ap (λ (v : Word). v.next) is ∙ e)))
+    word_there d = rw is (read_there t (p + 1) (λ e. d (ap (λ (v : Read). v.next) is ∙ e)))
 
   -- ---- the form of a run, one number at a time
   run_past : (f : ℕ) (t : List ℕ) (p : ℕ) → length t ≤ p → run_from read f t p ≡ run 0 0
@@ -107,7 +106,7 @@ module _ (read : Reader) (reads : Reads read) where
     unfolding run_from
     run_unspaced d = run_turn ∙ rw (ne_eqb (byte_at t p) 32 d)
 
-    module _ (w : Word) (is : w ≡ read t (p + 1)) (space : byte_at t p ≡ 32) where
+    module _ (w : Read) (is : w ≡ read t (p + 1)) (space : byte_at t p ≡ 32) where
       -- and a number after it
       pub run_wordless : w.next ≡ 0 → run_at read t p ≡ run 0 0
       unfolding run_from
@@ -143,7 +142,7 @@ module _ (read : Reader) (reads : Reads read) where
           (λ z. d (ap (λ (r : Run). r.next) (run_more t p (read t (p + 1)) refl (run_spaced t p d) (run_worded t p d) n) ∙ z))
 
 -- ---- the literals and the ids of a run
-module _ (t : List ℕ) (p : ℕ) (w : Word) (is : w ≡ literal_at t (p + 1)) where
+module _ (t : List ℕ) (p : ℕ) (w : Read) (is : w ≡ literal_at t (p + 1)) where
   pub literals_none : w.value ≡ 0 → literals_at t p ≡ []
   unfolding literals_at
   literals_none e = ap (map literal_of) (words_none literal_at literal_reads t p w is e)
@@ -152,11 +151,11 @@ module _ (t : List ℕ) (p : ℕ) (w : Word) (is : w ≡ literal_at t (p + 1)) w
   unfolding literals_at
   literals_more d = ap (map literal_of) (words_more literal_at literal_reads t p w is d)
 
-module _ (t : List ℕ) (p : ℕ) (w : Word) (is : w ≡ plain_at t (p + 1)) where
+module _ (t : List ℕ) (p : ℕ) (w : Read) (is : w ≡ plain_at t (p + 1)) where
   pub ids_none : w.value ≡ 0 → ids_at t p ≡ []
   unfolding ids_at
-  ids_none e = ap (map (λ (v : Word). v.value)) (words_none plain_at plain_reads t p w is e)
+  ids_none e = ap (map (λ (v : Read). v.value)) (words_none plain_at plain_reads t p w is e)
 
   pub ids_more : (w.value ≡ 0 → ⊥) → ids_at t p ≡ w.value ∷ ids_at t w.next
   unfolding ids_at
-  ids_more d = ap (map (λ (v : Word). v.value)) (words_more plain_at plain_reads t p w is d)
+  ids_more d = ap (map (λ (v : Read). v.value)) (words_more plain_at plain_reads t p w is d)

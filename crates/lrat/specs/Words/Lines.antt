@@ -4,8 +4,7 @@ use Rattle.std.proofs.Common.{inl, inr, arith}
 use Prim.Native.Nat.{ℕ, zero, suc, ◌+◌, ◌≤◌, ◌<◌}
 use borrow.Author.Tests.{eq-eqb, ne_eqb}
 use Rattle.prelude.specs.Tests.{eq?}
-use Rattle.numeral.specs.declared.Word.{Word}
-use Rattle.numeral.specs.Number.{byte_at, literal_at}
+use Rattle.numeral.specs.Number.{Read, byte_at, literal_at}
 use Rattle.lrat.specs.Words.{Reader, plain_at, Run, run, run_from, run_at, Line, no_line, addition, deletion, closed, deletion_at, hints_after, addition_at, line_after, line_at}
 use Rattle.lrat.specs.Words.Laws.{Reads, read_there}
 
@@ -50,7 +49,7 @@ module _ (t : List ℕ) (id p : ℕ) (end l : ℕ) (is : run end l ≡ run_at li
     unfolding addition_at hints_after
     addition_good d o = rw (← is, ne_eqb l 0 there, ← hints) (closed_good t h _ d o)
 
-module _ (t : List ℕ) (p : ℕ) (w : Word) (is : w ≡ plain_at t p) where
+module _ (t : List ℕ) (p : ℕ) (w : Read) (is : w ≡ plain_at t p) where
   pub line_none : w.next ≡ 0 → line_at t p ≡ no_line
   unfolding line_at line_after
   line_none z = rw (← is, eq-eqb w.next 0 z)

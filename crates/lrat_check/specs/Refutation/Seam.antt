@@ -26,7 +26,7 @@ drop_first [] i h = absurd (omega arith)
 drop_first (x ∷ l) zero h = refl
 drop_first (x ∷ l) (suc i) h = drop_first l i (omega arith)
 
-store_part : (n : ℕ) (l : List ℤ) (i : ℕ) → i + n ≤ length l → store_from n l i ≡ map literal_from (take n (drop i l))
+pub store_part : (n : ℕ) (l : List ℤ) (i : ℕ) → i + n ≤ length l → store_from n l i ≡ map literal_from (take n (drop i l))
 unfolding store_from
 store_part zero l i h = refl
 store_part (suc n) l i h =

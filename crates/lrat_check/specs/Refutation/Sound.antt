@@ -1,8 +1,8 @@
 -- "none" means that the request's formula is unsatisfiable, and that every network that does the job has more than r switches.
 -- Assumes nothing.
 use Rattle.std.proofs.Math.Path.{◌≡◌}
-use Rattle.std.specs.Prelude.{refl, List, ℕ, length}
-use Rattle.std.proofs.Common.{ap, ◌∙◌, arith, eq-eqb, ne_eqb}
+use Rattle.std.specs.Prelude.{refl, List, ℕ, length, Ok, Err}
+use Rattle.std.proofs.Common.{◌∙◌, eq-eqb, ne_eqb}
 use Rattle.std.proofs.Math.Logic.{⊎_elim}
 use Rattle.prelude.specs.Tests.{eq?}
 use Rattle.cnf.specs.Cnf.{Satisfiable}
@@ -11,34 +11,31 @@ use Rattle.network.specs.Least.{MoreThan}
 use Rattle.formula_clauses.specs.Store.{stored_formula, stored_variables, store_refusal}
 use Rattle.formula_clauses.specs.Store.Laws.{none_taken}
 use Rattle.lrat.proofs.CheckSound.{none_sound}
-use Rattle.lrat.specs.Outcome.{outcome_number}
+use Rattle.lrat.specs.Outcome.{Outcome, outcome_number}
+use Rattle.refusal.specs.Refusal.Laws.{number_some}
 use Rattle.lrat.proofs.OutcomeLaws.{none_code}
-use Rattle.lrat.specs.declared.Outcome.{Outcome}
-use Rattle.lrat.specs.declared.Outcome.TheVariants.{None, Refused}
 use Rattle.encoding.proofs.Least.{unsat_least}
 use Rattle.lrat_check.specs.Refutation.{Lent, refusal_before, lines_for, check_number, check_answer}
-use Rattle.lrat_check.specs.Refutation.Laws.{answer_number, answer_numbered}
+use Rattle.lrat_check.specs.Refutation.Laws.{answer_number}
 
 -- an outcome with the number 0 is "none"
-outcome_zero : (o : Outcome) → (o ≡ Refused 0 → ⊥) → outcome_number o ≡ 0 → o ≡ None
-outcome_zero None d e = refl
-outcome_zero (Refused x) d e = absurd (d (ap Refused e))
+outcome_zero : (o : Outcome) → outcome_number o ≡ 0 → o ≡ Ok tt
+outcome_zero (Ok x) e = refl
+outcome_zero (Err x) e = absurd (number_some x e)
 
 module _ (q : Request) (text : List ℕ) (s : Lent) where
   -- where a check ends in "none", nothing was refused before the lines, and they ended in the code 1
-  none_lines : (check_answer q text s).outcome ≡ None → (refusal_before q (length text) s ≡ 0) × ((lines_for q text s.added).code ≡ 1)
+  none_lines : (check_answer q text s).outcome ≡ Ok tt → (refusal_before q (length text) s ≡ 0) × ((lines_for q text s.added).code ≡ 1)
   unfolding check_answer
   none_lines e =
       ⊎_elim
       (λ (z : refusal_before q (length text) s ≡ 0).
       (z, none_code (lines_for q text s.added).code (rw (eq-eqb (refusal_before q (length text) s) 0 z) at e)))
       (λ (d : refusal_before q (length text) s ≡ 0 → ⊥).
-      absurd
-      (let f : Refused (refusal_before q (length text) s) ≡ None = (rw (ne_eqb (refusal_before q (length text) s) 0 d) at e) in
-      let z : ◌≡◌ {A = ℕ} 0 1 = cc in omega arith))
+      let f = (rw (ne_eqb (refusal_before q (length text) s) 0 d) at e) in (cc))
       (eq? (refusal_before q (length text) s) 0)
 
-  pub none_unsatisfiable : (check_answer q text s).outcome ≡ None → Satisfiable (stored_formula q) → ⊥
+  pub none_unsatisfiable : (check_answer q text s).outcome ≡ Ok tt → Satisfiable (stored_formula q) → ⊥
   unfolding lines_for
   none_unsatisfiable e = none_sound (stored_formula q) text (stored_variables q) s.added (none_lines e).1
 
@@ -52,11 +49,11 @@ module _ (q : Request) (text : List ℕ) (s : Lent) where
       (eq? (store_refusal q (length s.literals) (length s.pairs)) 0)
 
   -- every network of any number of switches that does the job has more than r
-  pub none_more : (check_answer q text s).outcome ≡ None → MoreThan q
+  pub none_more : (check_answer q text s).outcome ≡ Ok tt → MoreThan q
   none_more e =
       unsat_least q (none_taken _ _ _ _ _ (before_store (none_lines e).0)).request
       (none_unsatisfiable e)
 
   -- so the number 0 is that of "none" alone
-  pub number_none : check_number q text s ≡ 0 → (check_answer q text s).outcome ≡ None
-  number_none e = outcome_zero (check_answer q text s).outcome (answer_numbered q text s) (answer_number q text s ∙ e)
+  pub number_none : check_number q text s ≡ 0 → (check_answer q text s).outcome ≡ Ok tt
+  number_none e = outcome_zero (check_answer q text s).outcome (answer_number q text s ∙ e)

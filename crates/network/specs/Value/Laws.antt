@@ -1,5 +1,6 @@
 -- Laws of networks as values: what the loops that compare two arrays answer, and that the test is equality. Assumes nothing.
-use Rattle.std.specs.Prelude.{◌≡◌, Bool, true, false, List, ℕ, ◌<◌, length, get_or}
+use Rattle.std.specs.Prelude.{◌≡◌, refl, Bool, true, false, ◌&&◌, List, [], ◌∷◌, ℕ, ◌<◌, eqb, length, get_or}
+use lib.Pointwise.{pointwise}
 use Rattle.std.proofs.Math.Path.{sym}
 use Rattle.std.proofs.Common.{ap, ◌∙◌, arith, eq-eqb, ne_eqb, ext_get_or}
 use Rattle.prelude.specs.Lists.{equal_lists}
@@ -36,3 +37,17 @@ module _ (a b : Network) where
       → equal_lists a.labels b.labels ≡ same_network a b
   unfolding same_network
   same_labels e t h f = sym (rw (eq-eqb a.r b.r e, ← h, f))
+
+-- the comparison entry by entry is that of the lists
+pub pointwise_equal : (a b : List ℕ) → pointwise eqb a b ≡ equal_lists a b
+unfolding equal_lists
+pointwise_equal [] [] = refl
+pointwise_equal [] (y ∷ ys) = refl
+pointwise_equal (x ∷ xs) [] = refl
+pointwise_equal (x ∷ xs) (y ∷ ys) = ap (λ (t : Bool). eqb x y && t) (pointwise_equal xs ys)
+
+-- so the comparison of the three fields is that of the networks
+pub fields_same : (a b : Network)
+    → eqb a.r b.r && (pointwise eqb a.literals b.literals && pointwise eqb a.labels b.labels) ≡ same_network a b
+unfolding same_network
+fields_same a b = rw (pointwise_equal a.literals b.literals, pointwise_equal a.labels b.labels) refl

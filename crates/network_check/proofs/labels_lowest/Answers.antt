@@ -1,22 +1,19 @@
--- The labels below the index are lowest terminals of their nets. A label at or below its terminal is itself a terminal, so the
--- label there can be read. Assumes nothing.
-use Rattle.network.proofs.CheckLaws.{label_above, label_other, labels_right}
-use borrow.Author.Count.{below_more}
-use native.Mathlib.Omega.{arith}
-use borrow.Author.Rules.{rules}
+-- Each label is tested. Assumes nothing.
+use Rattle.std.proofs.Common.{rules, ℕ, ◌∙◌, refl, arith, ◌&&◌}
+use borrow.Author.Tests.{tests}
+use Rattle.std.proofs.lemmas.Iterator.{YieldsList-from_range}
+use Rattle.std.proofs.lemmas.Iterator.Search.{all_from_yields_List}
+use Rattle.std.proofs.Math.Dec.{eqb, leb}
+use Rattle.network.specs.Networks.{terminals}
+use Rattle.network.specs.Check.{label_in, labels_lowest}
+use Rattle.prelude.specs.Arrays.{all_range}
 use Rattle.network_check.proofs.labels_lowest.Goals as goal
 
-pub loop-i-init : goal.loop-i-init
-loop-i-init c = (search rules, λ j h. absurd (omega arith))
-
-pub returns-then-i-low : goal.returns-then-i-low
-returns-then-i-low c = label_above _ _ c.loop-i.i (omega arith) c.if-i-low.true
-
-pub returns-then-labels-low : goal.returns-then-labels-low
-returns-then-labels-low c = label_other _ _ c.loop-i.i (omega arith) c.if-labels-low.true
-
-pub loop-i-preserved : goal.loop-i-preserved
-loop-i-preserved c = (search rules, below_more _ _ c.loop-i.invariant.1 (c.if-i-low.false, c.if-labels-low.false))
-
 pub returns : goal.returns
-returns c = labels_right _ _ (λ i h. c.loop-i.invariant.1 i (omega arith))
+unfolding labels_lowest
+returns c =
+    let label : ℕ → ℕ = label_in c.args.labels in
+    let p : ℕ → _ = λ i. leb (label i) i && eqb (label (label i)) (label i) in
+    let n : ℕ = terminals c.args.q.request.r in
+    all_from_yields_List p _ _ _ c.all.ensures.ran (YieldsList-from_range 0 n n refl (omega arith)) (λ x b q k. search (rules, tests))
+    ∙ all_range p n 0

@@ -1,18 +1,16 @@
--- The literals below the index are below 2n. Assumes nothing.
-use Rattle.network.proofs.CheckLaws.{literals_high, literals_below}
-use borrow.Author.Count.{below_more}
-use native.Mathlib.Omega.{arith}
-use borrow.Author.Rules.{rules}
+-- Each literal is tested. Assumes nothing.
+use Rattle.std.proofs.Common.{rules, ℕ, ◌*◌, ◌∙◌, refl, arith}
+use borrow.Author.Tests.{tests}
+use Rattle.std.proofs.lemmas.Iterator.{YieldsList-from_range}
+use Rattle.std.proofs.lemmas.Iterator.Search.{all_from_yields_List}
+use Rattle.std.proofs.Math.Dec.{ltb}
+use Rattle.network.specs.Check.{label_in, literals_low}
+use Rattle.prelude.specs.Arrays.{all_range}
 use Rattle.network_check.proofs.literals_low.Goals as goal
 
-pub loop-s-init : goal.loop-s-init
-loop-s-init c = (search rules, λ j h. absurd (omega arith))
-
-pub returns-then-n-literals : goal.returns-then-n-literals
-returns-then-n-literals c = literals_high _ _ _ c.loop-s.s (omega arith) c.if-n-literals.true
-
-pub loop-s-preserved : goal.loop-s-preserved
-loop-s-preserved c = (search rules, below_more _ _ c.loop-s.invariant.1 c.if-n-literals.false)
-
 pub returns : goal.returns
-returns c = literals_below _ _ _ (λ s h. c.loop-s.invariant.1 s (omega arith))
+unfolding literals_low
+returns c =
+    let p : ℕ → _ = λ s. ltb (label_in c.args.literals s) (2 * c.args.q.request.n) in
+    all_from_yields_List p _ _ _ c.all.ensures.ran (YieldsList-from_range 0 c.args.q.request.r c.args.q.request.r refl (omega arith)) (λ x b q k. search (rules, tests))
+    ∙ all_range p c.args.q.request.r 0

@@ -1,67 +1,57 @@
 -- The number is the digits read so far going on with what is left of nine; the value is below 10 to the number of digits.
 -- Assumes nothing.
-use Rattle.numeral.specs.Number.Laws.{digit_low, digit_high, number_none, number_past, number_zero, number_minus, number_first, number_next, number_low, number_high, number_limit, tens_first, tens_next, tens_fits}
-use mathlib.Core.Path.{refl, sym, ◌∙◌}
-use native.Mathlib.Omega.{arith}
-use borrow.Author.Rules.{rules}
+use Rattle.std.proofs.Common.{◌≡◌, ◌+◌, ◌<◌, length, refl, sym, ap, ◌∙◌, subst, arith}
+use Rattle.numeral.specs.Number.{word, Limit}
+use Rattle.numeral.specs.Number.Laws.{number_minus, number_zero, number_none, number_first, number_next, number_stop, number_limit, limit_min, tens_first, tens_next, tens_fits}
+use Rattle.numeral.specs.Number.Places.{byte_in}
+use Rattle.numeral.specs.Number.Words.{sign_number, word_of, some_word}
 use Rattle.numeral.proofs.number.Goals as goal
 
-pub returns-then-n-at : goal.returns-then-n-at
-returns-then-n-at c = c.none.ensures ∙ sym (number_past _ _ _ c.if-n-at.true)
+pub returns-then-minus : goal.returns-then-minus
+returns-then-minus c =
+    ap word_of (sym (number_minus _ _ _ (sym c.byte-first.ensures ∙ c.if-first-eq48.true) (ap sign_number c.if-minus.true)))
 
-pub returns-then-minus-eq1 : goal.returns-then-minus-eq1
-returns-then-minus-eq1 c = c.none-then-minus-eq1.ensures ∙ sym (number_minus _ _ _ c.if-b-eq48.true c.if-minus-eq1.true)
+pub returns-then-first-eq48 : goal.returns-then-first-eq48
+returns-then-first-eq48 c =
+    let zero : sign_number c.args.minus ≡ 0 = ap sign_number c.if-minus.false in
+    some_word _ _ (ap (λ m. word m 0 (c.args.at + 1)) zero ∙ sym (number_zero _ _ _ (sym c.byte-first.ensures ∙ c.if-first-eq48.true) (λ e. omega arith))) (λ e. omega arith)
 
-pub returns-then-b-eq48 : goal.returns-then-b-eq48
-returns-then-b-eq48 c = sym (number_zero _ _ _ c.if-b-eq48.true c.if-minus-eq1.false)
-
-pub returns-then-b-lt48 : goal.returns-then-b-lt48
-returns-then-b-lt48 c = c.none-then-b-lt48.ensures ∙ sym (number_none _ _ _ (digit_low _ c.if-b-lt48.true))
-
-pub returns-then-b-gt57 : goal.returns-then-b-gt57
-returns-then-b-gt57 c = c.none-then-b-gt57.ensures ∙ sym (number_none _ _ _ (digit_high _ c.if-b-gt57.true))
+pub returns-then-not-is_ascii_digit : goal.returns-then-not-is_ascii_digit
+returns-then-not-is_ascii_digit c =
+    ap word_of (sym (number_none _ _ _ (rw c.byte-first.ensures at (sym c.is_ascii_digit.ensures.value ∙ c.if-not-is_ascii_digit.true))))
 
 pub loop-p-init : goal.loop-p-init
 loop-p-init c =
-    let l = c.limit-stop.ensures in (
-      search rules,
-      omega (arith, l.above),
-      refl,
-      l,
-      tens_first _ _ (omega (arith, c.digit-value.ensures)),
-      number_first _ _ _ _ c.if-b-eq48.false (search rules) (search rules) c.digit-value.ensures,
-    )
+    let digit = c.if-not-is_ascii_digit.ensures.cases in
+    record {
+      below = tens_first _ _ (omega arith);
+      read = number_first _ _ _ _ (λ e. c.if-first-eq48.false (c.byte-first.ensures ∙ e)) (omega arith) (omega arith) (omega arith);
+    }
 
-pub bounds-text-p : goal.bounds-text-p
-bounds-text-p c = let v = c.loop-p.invariant in omega (arith, v.3.inside)
-
-pub returns-then-d-lt48 : goal.returns-then-d-lt48
-returns-then-d-lt48 c = number_low _ _ _ _ _ c.loop-p.invariant.5 c.if-d-lt48.true
-
-pub returns-then-d-gt57 : goal.returns-then-d-gt57
-returns-then-d-gt57 c = number_high _ _ _ _ _ c.loop-p.invariant.5 c.if-d-gt57.true
+pub returns-then-not-is_ascii_digit-2 : goal.returns-then-not-is_ascii_digit-2
+returns-then-not-is_ascii_digit-2 c =
+    some_word _ _ (number_stop _ _ _ _ _ c.loop-p.invariant.read (sym c.is_ascii_digit-in-loop-p.ensures.value ∙ c.if-not-is_ascii_digit-2.true)) (λ e. omega arith)
 
 pub overflow_mul-value : goal.overflow_mul-value
-overflow_mul-value c = let v = c.loop-p.invariant in omega (arith, tens_fits _ _ _ v.4 (omega (arith, v.3.nine)))
+overflow_mul-value c = omega (arith, tens_fits _ _ _ c.loop-p.invariant.below (omega arith))
 
 pub overflow_add-value : goal.overflow_add-value
-overflow_add-value c = let v = c.loop-p.invariant in omega (arith, tens_fits _ _ _ v.4 (omega (arith, v.3.nine)))
-
-pub overflow_add-p-in-loop-p : goal.overflow_add-p-in-loop-p
-overflow_add-p-in-loop-p c = let v = c.loop-p.invariant in omega (arith, v.3.inside)
+overflow_add-value c =
+    let digit = c.if-not-is_ascii_digit-2.ensures.cases in
+    omega (arith, tens_fits _ _ _ c.loop-p.invariant.below (omega arith))
 
 pub loop-p-preserved : goal.loop-p-preserved
 loop-p-preserved c =
-    let v = c.loop-p.invariant in (
-      search rules,
-      search rules,
-      v.2,
-      v.3,
-      tens_next _ _ _ _ v.4 (omega arith) (omega (arith, c.digit.ensures)),
-      number_next _ _ _ _ _ v.5 _ (omega (arith, v.3.nine)) (search rules) (search rules) c.digit.ensures,
-    )
+    let digit = c.if-not-is_ascii_digit-2.ensures.cases in
+    record {
+      below = tens_next _ _ _ _ c.loop-p.invariant.below (omega arith) (omega arith);
+      read = number_next _ _ _ _ _ c.loop-p.invariant.read _ (omega arith) (omega arith) (omega arith) c.from.ensures;
+    }
 
 pub returns : goal.returns
 returns c =
-    let v = c.loop-p.invariant in
-    number_limit _ _ _ _ _ _ _ v.5 v.2 v.3 v.1 c.loop-p-test.false
+    let digit = c.if-not-is_ascii_digit.ensures.cases in
+    let inside : c.args.at < length c.args.text.now = byte_in c.args.text.now c.args.at (λ e. omega arith) in
+    let limit : Limit (length c.args.text.now) c.args.at c.min-stop.result = subst (Limit (length c.args.text.now) c.args.at) (sym c.min-stop.ensures) (limit_min _ _ inside) in
+    let last : c.loop-p.p ≡ c.min-stop.result = omega (arith, limit.above) in
+    some_word _ _ (ap (word (sign_number c.args.minus) c.loop-p.value) (sym last) ∙ number_limit _ _ _ _ _ _ _ c.loop-p.invariant.read refl limit (omega arith) (omega arith)) (λ e. omega (arith, limit.above))

@@ -1,5 +1,5 @@
 -- What reading a number gives. Assumes nothing.
-use Rattle.std.specs.Prelude.{◌≡◌, refl, List, [], ◌∷◌, Bool, true, false, ℕ, zero, suc, ◌+◌, ◌-◌, ◌*◌, ◌≤◌, ◌<◌, length}
+use Rattle.std.specs.Prelude.{◌≡◌, refl, List, [], ◌∷◌, Bool, true, false, ℕ, zero, suc, ◌+◌, ◌-◌, ◌*◌, ◌≤◌, ◌<◌, min, length}
 use Rattle.std.proofs.Common.{sym, ap, ◌∙◌, ⊎_elim, arith, add-one, le-leb, eq-eqb, ne_eqb}
 use Rattle.std.proofs.lemmas.Bool.{lt-leb}
 use Rattle.prelude.specs.Tests.{eq?, le?}
@@ -91,6 +91,9 @@ module _ (t : List ℕ) (at m x p : ℕ) (read : number_at t at m ≡ digits_at 
       read ∙ digits_more (at + 9 - p) m x t p (digit_yes (byte_at t p) l h) (omega arith)
       ∙ (let z : at + 9 - p - 1 ≡ at + 9 - (p + 1) = omega arith in rw (← e, z))
 
+  pub number_stop : is_digit (byte_at t p) ≡ false → word m x p ≡ number_at t at m
+  number_stop d = sym (read ∙ digits_stop (at + 9 - p) m x t p d)
+
   pub number_low : byte_at t p < 48 → word m x p ≡ number_at t at m
   number_low h = sym (read ∙ digits_stop (at + 9 - p) m x t p (digit_low (byte_at t p) h))
 
@@ -129,3 +132,7 @@ literal_past t p h = literal_plain t p (λ e. omega (arith, byte_past t p h))
 pub number_limit : (t : List ℕ) (at m x p n r : ℕ) → number_at t at m ≡ digits_at (at + 9 - p) m x t p → n ≡ length t → Limit n at r → p ≤ r → r ≤ p → word m x p ≡ number_at t at m
 number_limit t at m x p n r read e l h k =
     ⊎_elim (λ z. number_nine t at m x p read (omega arith)) (λ z. number_end t at m x p read (omega (arith, l.short (omega arith)))) (le? (at + 9) p)
+
+-- at is inside where a digit stands there, and the loop's limit is nine bytes on or the text's end
+pub limit_min : (n at : ℕ) → at < n → Limit n at (min n (at + 9))
+limit_min n at h = record { above = omega arith; inside = omega arith; nine = omega arith; short = λ l. omega arith }

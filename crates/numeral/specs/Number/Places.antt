@@ -2,12 +2,11 @@
 use Rattle.std.specs.Prelude.{◌≡◌, refl, List, true, false, ◌⊎◌, ℕ, zero, suc, ◌+◌, ◌-◌, ◌*◌, ◌≤◌, ◌<◌, length}
 use Rattle.std.proofs.Common.{sym, ap, ◌∙◌, inl, inr, ⊎_elim, arith}
 use Rattle.prelude.specs.Tests.{eq?, le?}
-use Rattle.numeral.specs.declared.Word.{Word}
-use Rattle.numeral.specs.Number.{byte_at, is_digit, no_word, digits_at, number_at, literal_at}
+use Rattle.numeral.specs.Number.{Read, byte_at, is_digit, no_word, digits_at, number_at, literal_at}
 use Rattle.numeral.specs.Number.Laws.{byte_past, digit_yes, digit_low, digit_high, digits_stop, number_none, number_zero, number_minus, number_some, number_next, literal_minus, literal_plain}
 
 -- a number that stands at p ends past p and inside the text; its minus is 0 or 1
-pub record Ends (t : List ℕ) (p : ℕ) (w : Word) : Type 0 where
+pub record Ends (t : List ℕ) (p : ℕ) (w : Read) : Type 0 where
   pub low : p < w.next
   pub high : w.next ≤ length t
   pub sign : w.minus ≤ 1
@@ -31,7 +30,7 @@ unfolding digits_at
 digits_ends zero m x t p s h = (omega arith, h, s)
 digits_ends (suc f) m x t p s h = go (digit? (byte_at t p)) (digits_ends f m (x * 10 + (byte_at t p - 48)) t (p + 1) s)
   where
-    R : Word → ℕ → Type 0
+    R : Read → ℕ → Type 0
     R w q = (q ≤ w.next) × (w.next ≤ length t) × (w.minus ≤ 1)
 
     go : (is_digit (byte_at t p) ≡ false) ⊎ ((is_digit (byte_at t p) ≡ true) × (48 ≤ byte_at t p) × (byte_at t p ≤ 57))
@@ -75,12 +74,19 @@ literal_ways t p = go (eq? (byte_at t p) 45)
 -- a number that was read ends past its start and inside the text
 pub literal_there : (t : List ℕ) (p : ℕ) → ((literal_at t p).next ≡ 0 → ⊥) → Ends t p (literal_at t p)
 literal_there t p d =
-    ⊎_elim (λ (e : literal_at t p ≡ no_word). absurd (d (ap (λ (w : Word). w.next) e))) (λ (r : Ends t p (literal_at t p)). r) (literal_ways t p)
+    ⊎_elim (λ (e : literal_at t p ≡ no_word). absurd (d (ap (λ (w : Read). w.next) e))) (λ (r : Ends t p (literal_at t p)). r) (literal_ways t p)
 
 -- a word ends inside the text, read or not, and its minus is 0 or 1
-pub record Within (t : List ℕ) (w : Word) : Type 0 where
+pub record Within (t : List ℕ) (w : Read) : Type 0 where
   pub high : w.next ≤ length t
   pub sign : w.minus ≤ 1
+
+pub number_within : (t : List ℕ) (p m : ℕ) → m ≤ 1 → Within t (number_at t p m)
+number_within t p m s =
+    ⊎_elim
+    (λ (e : number_at t p m ≡ no_word). rw e (record { high = omega arith; sign = omega arith }))
+    (λ (r : Ends t p (number_at t p m)). record { high = r.high; sign = r.sign })
+    (number_ways t p m s)
 
 pub literal_within : (t : List ℕ) (p : ℕ) → Within t (literal_at t p)
 literal_within t p =
@@ -94,7 +100,7 @@ literal_within t p =
 pub digits_go : (f m x : ℕ) (t : List ℕ) (p : ℕ) → p < (digits_at f m x t p).next → (48 ≤ byte_at t p) × (byte_at t p ≤ 57)
 digits_go f m x t p h =
     ⊎_elim
-    (λ (e : is_digit (byte_at t p) ≡ false). absurd (let z : (digits_at f m x t p).next ≡ p = ap (λ (w : Word). w.next) (digits_stop f m x t p e) in omega arith))
+    (λ (e : is_digit (byte_at t p) ≡ false). absurd (let z : (digits_at f m x t p).next ≡ p = ap (λ (w : Read). w.next) (digits_stop f m x t p e) in omega arith))
     (λ (d : (is_digit (byte_at t p) ≡ true) × (48 ≤ byte_at t p) × (byte_at t p ≤ 57)). (d.1, d.2))
     (digit? (byte_at t p))
 
@@ -110,7 +116,7 @@ module _ (t : List ℕ) (at m : ℕ) (sign : m ≤ 1) (there : (number_at t at m
   pub known_first : (48 ≤ byte_at t at) × (byte_at t at ≤ 57) × (at < length t)
   known_first =
       ⊎_elim
-      (λ (e : is_digit (byte_at t at) ≡ false). absurd (there (ap (λ (w : Word). w.next) (number_none t at m e))))
+      (λ (e : is_digit (byte_at t at) ≡ false). absurd (there (ap (λ (w : Read). w.next) (number_none t at m e))))
       (λ (d : (is_digit (byte_at t at) ≡ true) × (48 ≤ byte_at t at) × (byte_at t at ≤ 57)). (d.1, d.2, byte_in t at (λ e. omega arith)))
       (digit? (byte_at t at))
 
@@ -118,7 +124,7 @@ module _ (t : List ℕ) (at m : ℕ) (sign : m ≤ 1) (there : (number_at t at m
   pub known_ends : (at < (number_at t at m).next) × ((number_at t at m).next < length t)
   known_ends =
       ⊎_elim
-      (λ (e : number_at t at m ≡ no_word). absurd (there (ap (λ (w : Word). w.next) e)))
+      (λ (e : number_at t at m ≡ no_word). absurd (there (ap (λ (w : Read). w.next) e)))
       (λ (r : Ends t at (number_at t at m)). (r.low, byte_in t (number_at t at m).next (λ e. omega arith)))
       (number_ways t at m sign)
 
@@ -129,11 +135,11 @@ module _ (t : List ℕ) (at m : ℕ) (sign : m ≤ 1) (there : (number_at t at m
       eight = omega arith
 
       zero_way : byte_at t at ≡ 48 → (m ≡ 1) ⊎ (m ≡ 1 → ⊥) → number_at t at m ≡ digits_at (at + 9 - (at + 1)) m (byte_at t at - 48) t (at + 1)
-      zero_way e (inl o) = absurd (there (ap (λ (w : Word). w.next) (number_minus t at m e o)))
+      zero_way e (inl o) = absurd (there (ap (λ (w : Read). w.next) (number_minus t at m e o)))
       zero_way e (inr o) =
           let n = number_zero t at m e o in
           let z : m ≡ 0 = omega arith in
-          let b : byte_at t (at + 1) < 48 = (let y : byte_at t (at + 1) ≡ 32 = ap (λ (w : Word). byte_at t w.next) (sym n) ∙ space in omega arith) in
+          let b : byte_at t (at + 1) < 48 = (let y : byte_at t (at + 1) ≡ 32 = ap (λ (w : Read). byte_at t w.next) (sym n) ∙ space in omega arith) in
           n ∙ sym (digits_stop (at + 9 - (at + 1)) m (byte_at t at - 48) t (at + 1) (digit_low (byte_at t (at + 1)) b) ∙ rw (z, e))
 
       go : (byte_at t at ≡ 48) ⊎ (byte_at t at ≡ 48 → ⊥) → number_at t at m ≡ digits_at (at + 9 - (at + 1)) m (byte_at t at - 48) t (at + 1)
@@ -146,7 +152,7 @@ module _ (t : List ℕ) (at m : ℕ) (sign : m ≤ 1) (there : (number_at t at m
     known_before = ⊎_elim (λ (e : p ≡ (number_at t at m).next). absurd (more (ap (byte_at t) e ∙ space))) (λ (d : p ≡ (number_at t at m).next → ⊥). omega arith) (eq? p (number_at t at m).next)
 
     left : p < (digits_at (at + 9 - p) m x t p).next
-    left = let e : (number_at t at m).next ≡ (digits_at (at + 9 - p) m x t p).next = ap (λ (w : Word). w.next) read in omega (arith, known_before)
+    left = let e : (number_at t at m).next ≡ (digits_at (at + 9 - p) m x t p).next = ap (λ (w : Read). w.next) read in omega (arith, known_before)
 
     pub known_digit : (48 ≤ byte_at t p) × (byte_at t p ≤ 57)
     known_digit = digits_go (at + 9 - p) m x t p left
@@ -163,7 +169,7 @@ module _ (t : List ℕ) (at : ℕ) (there : (literal_at t at).next ≡ 0 → ⊥
   known_inside = let r = literal_there t at there in omega (arith, r.low, r.high)
 
   pub known_minus : byte_at t at ≡ 45 → ((number_at t (at + 1) 1).next ≡ 0 → ⊥) × (byte_at t (number_at t (at + 1) 1).next ≡ 32)
-  known_minus e = let q = literal_minus t at e in ((λ z. there (ap (λ (w : Word). w.next) q ∙ z)), ap (λ (w : Word). byte_at t w.next) (sym q) ∙ space)
+  known_minus e = let q = literal_minus t at e in ((λ z. there (ap (λ (w : Read). w.next) q ∙ z)), ap (λ (w : Read). byte_at t w.next) (sym q) ∙ space)
 
   pub known_plain : (byte_at t at ≡ 45 → ⊥) → ((number_at t at 0).next ≡ 0 → ⊥) × (byte_at t (number_at t at 0).next ≡ 32)
-  known_plain d = let q = literal_plain t at d in ((λ z. there (ap (λ (w : Word). w.next) q ∙ z)), ap (λ (w : Word). byte_at t w.next) (sym q) ∙ space)
+  known_plain d = let q = literal_plain t at d in ((λ z. there (ap (λ (w : Read). w.next) q ∙ z)), ap (λ (w : Read). byte_at t w.next) (sym q) ∙ space)

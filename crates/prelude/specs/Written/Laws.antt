@@ -7,6 +7,7 @@ use Rattle.std.proofs.Math.Numerals.{add-one}
 use Rattle.std.proofs.Math.ListN.{length, take, drop, length-take}
 use Rattle.std.proofs.Math.Seq.{drop-append-add, take_at, drop-drop}
 use Rattle.std.proofs.lemmas.List.{set_split}
+use borrow.Rule.Slice.PartMut.{put_mid}
 use Rattle.prelude.specs.Written.{written}
 
 module _ {A : Type 0} where
@@ -80,3 +81,8 @@ module _ {A : Type 0} (xs ys zs : List A) (parts : zs ≡ xs ++ ys) (at : ℕ) w
         omega arith,
         q ∙ ap₂ (λ (b : List A) (i : ℕ). written b i ys) p g ∙ written_append l at xs ys (omega arith) ∙ ap (written l at) (sym parts),
       )
+
+-- a word copied over the part of a list from at on
+pub wrote_part : {A : Type 0} (l : List A) (at n : ℕ) (word part : List A) → part ≡ word → n ≡ length word → put_mid at n l part ≡ written l at word
+unfolding written
+wrote_part l at n word part e h = rw (e, h) (ap (λ (r : List _). take at l ++ (word ++ r)) (drop-drop (length word) at l))

@@ -3,7 +3,7 @@ use Rattle.reports.proofs.ReportLaws.{report_refused, report_settled, leaves_ref
 use Rattle.reports.proofs.ReportLeast.{report_least}
 use Rattle.reports.specs.Report.{report_text, report_leaves, BeginsLeast, SaysLeast}
 use Rattle.lrat_check.specs.Refutation.{Lent}
-use mathlib.Core.Path.{◌≡◌, sym, ◌∙◌}
+use mathlib.Core.Path.{◌≡◌, ◌∙◌}
 use mathlib.Core.List.{List}
 use Prim.Native.Nat.{ℕ}
 use Rattle.reports.proofs.report.Goals as goal
@@ -14,27 +14,27 @@ answered : (request answer refutation : List ℕ) (s : Lent) {text : List ℕ} {
     → (text ≡ report_text request answer refutation s) × ((l ≡ report_leaves request answer refutation s) × (BeginsLeast text → SaysLeast request text))
 answered request answer refutation s {text} e f = (e, (f, report_least request answer refutation s text e))
 
-pub returns-in-Refused : goal.returns-in-Refused
-returns-in-Refused c = let e = sym c.in-Refused.is ∙ c.read_request.ensures.answer in
-    let p = answered _ _ _ _ (c.refused_text.ensures.0 ∙ report_refused _ _ _ _ _ e) (leaves_refused _ _ _ _ _ e) in
+pub returns-in-Err : goal.returns-in-Err
+returns-in-Err c = let e = c.in-Err.ensures.answer in
+    let p = answered _ _ _ _ (c.refused_text.ensures ∙ report_refused _ _ _ _ _ e) (leaves_refused _ _ _ _ _ e) in
     record { text = p.0; slices = p.1.0; least = p.1.1 }
 
 pub returns-in-Least : goal.returns-in-Least
-returns-in-Least c = let e = sym c.in-Taken.is ∙ c.read_request.ensures.answer in
-    let p = answered _ _ _ _ (c.least_text.ensures.0 ∙ report_settled _ _ _ _ _ e _ c.settle-settled.ensures.settled _ c.in-Least.is) (leaves_settled _ _ _ _ _ e _ c.settle-settled.ensures.slices) in
+returns-in-Least c = let e = c.in-Ok.ensures.answer in
+    let p = answered _ _ _ _ (c.least_text.ensures ∙ report_settled _ _ _ _ _ e _ c.settle-settled.ensures.settled _ c.in-Least.is) (leaves_settled _ _ _ _ _ e _ c.settle-settled.ensures.slices) in
     record { text = p.0; slices = p.1.0; least = p.1.1 }
 
 pub returns-in-Works : goal.returns-in-Works
-returns-in-Works c = let e = sym c.in-Taken.is ∙ c.read_request.ensures.answer in
-    let p = answered _ _ _ _ (c.works_text.ensures.0 ∙ report_settled _ _ _ _ _ e _ c.settle-settled.ensures.settled _ c.in-Works.is) (leaves_settled _ _ _ _ _ e _ c.settle-settled.ensures.slices) in
+returns-in-Works c = let e = c.in-Ok.ensures.answer in
+    let p = answered _ _ _ _ (c.works_text.ensures ∙ report_settled _ _ _ _ _ e _ c.settle-settled.ensures.settled _ c.in-Works.is) (leaves_settled _ _ _ _ _ e _ c.settle-settled.ensures.slices) in
     record { text = p.0; slices = p.1.0; least = p.1.1 }
 
 pub returns-in-Fails : goal.returns-in-Fails
-returns-in-Fails c = let e = sym c.in-Taken.is ∙ c.read_request.ensures.answer in
-    let p = answered _ _ _ _ (c.fails_text.ensures.0 ∙ report_settled _ _ _ _ _ e _ c.settle-settled.ensures.settled _ c.in-Fails.is) (leaves_settled _ _ _ _ _ e _ c.settle-settled.ensures.slices) in
+returns-in-Fails c = let e = c.in-Ok.ensures.answer in
+    let p = answered _ _ _ _ (c.fails_text.ensures ∙ report_settled _ _ _ _ _ e _ c.settle-settled.ensures.settled _ c.in-Fails.is) (leaves_settled _ _ _ _ _ e _ c.settle-settled.ensures.slices) in
     record { text = p.0; slices = p.1.0; least = p.1.1 }
 
-pub returns-in-Refused-verdict : goal.returns-in-Refused-verdict
-returns-in-Refused-verdict c = let e = sym c.in-Taken.is ∙ c.read_request.ensures.answer in
-    let p = answered _ _ _ _ (c.refused_text-in-Refused-verdict.ensures.0 ∙ report_settled _ _ _ _ _ e _ c.settle-settled.ensures.settled _ c.in-Refused-verdict.is) (leaves_settled _ _ _ _ _ e _ c.settle-settled.ensures.slices) in
+pub returns-in-Refused : goal.returns-in-Refused
+returns-in-Refused c = let e = c.in-Ok.ensures.answer in
+    let p = answered _ _ _ _ (c.refused_text-in-Refused.ensures ∙ report_settled _ _ _ _ _ e _ c.settle-settled.ensures.settled _ c.in-Refused.is) (leaves_settled _ _ _ _ _ e _ c.settle-settled.ensures.slices) in
     record { text = p.0; slices = p.1.0; least = p.1.1 }

@@ -4,7 +4,7 @@ use Rattle.std.proofs.Common.{sym, ap, ap₂, ◌∙◌, append_assoc, append-ni
 use Rattle.prelude.specs.Written.{written}
 use Rattle.prelude.specs.Written.Laws.{Wrote}
 use Rattle.reports.specs.Texts.{shown, Added}
-use Rattle.reports.specs.declared.Text.{Text}
+use Rattle.reports.specs.declared.buffer.Text.{Text}
 
 -- the part of a written list up to the end of what was written
 written_front : (l : List ℕ) (at : ℕ) (xs : List ℕ) → at + length xs ≤ length l → take (at + length xs) (written l at xs) ≡ take at l ++ xs
@@ -19,10 +19,10 @@ added_none t = record { text = sym (append-nil (shown t)); long = omega arith }
 
 -- a list written at the end of a text's bytes is added to it
 pub added_wrote : (t : Text) (xs : List ℕ) (n : ℕ) {k : ℕ} {m : List ℕ} → t.count + length xs ≤ length t.bytes → length xs ≤ n
-    → Wrote t.bytes t.count xs k m → Added t xs n (record { bytes = m; count = k })
+    → Wrote t.bytes t.count xs k m → (u : Text) → u.bytes ≡ m → u.count ≡ k → Added t xs n u
 unfolding shown
-added_wrote t xs n h b (e, p) =
-    record { text = ap₂ take e p ∙ written_front t.bytes t.count xs h; long = omega arith }
+added_wrote t xs n h b (e, p) u f g =
+    record { text = ap₂ take (g ∙ e) (f ∙ p) ∙ written_front t.bytes t.count xs h; long = omega arith }
 
 -- one addition after another
 pub added_then : {t u v : Text} {xs ys : List ℕ} {m n : ℕ} → Added t xs m u → Added u ys n v → Added t (xs ++ ys) (m + n) v

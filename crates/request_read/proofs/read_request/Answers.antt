@@ -6,8 +6,7 @@ use mathlib.Core.List.{List}
 use Prim.Native.Nat.{ℕ, ◌+◌}
 use native.Mathlib.Omega.{arith}
 use Rattle.request.proofs.LineLaws.{run_inside, run_yes, run_no, form_first, form_second, form_third, form_fourth, form_longer, form_line, form_ends, number_is, values_is}
-use Rattle.request.specs.Line.{number_of, values_of, request_number, request_values, request_of, digit, table_character, Run}
-use Rattle.request.specs.declared.Reading.{Reading}
+use Rattle.request.specs.Line.{Reading, number_of, values_of, request_number, request_values, request_of, digit, table_character, Run}
 use Rattle.request_read.proofs.read_request.Goals as goal
 
 -- with the answer come its number and values

@@ -16,6 +16,6 @@ returns-then-k-lt-ROWS c =
     let a = c.args in
     ap (λ (n : ℕ). ones (a.rows % n)) (one_shifted a.k rows_most (omega arith)) ∙ ones_below a.rows a.k
 
-pub returns : goal.returns
-returns c =
+pub returns-else-k-lt-ROWS : goal.returns-else-k-lt-ROWS
+returns-else-k-lt-ROWS c =
     c.rows_in.ensures ∙ sym (set_past c.args.rows rows_most c.args.k c.ranges.rows.fits (omega arith))

@@ -2,15 +2,17 @@
 -- Assumes nothing.
 use mathlib.Core.Path.{◌≡◌, refl, sym, ap, ◌∙◌, subst}
 use mathlib.Core.List.{List}
-use Prim.Native.Nat.{ℕ}
+use Prim.Native.Nat.{ℕ, zero, suc}
+use Rattle.std.specs.Prelude.{None, Ok, Err}
 use native.Mathlib.Omega.{arith}
 use lib.IntN.{ℤ}
 use Rattle.request.specs.declared.Request.{Request}
-use Rattle.network.specs.declared.Checked.{Checked}
-use Rattle.network.specs.declared.Checked.TheVariants.{Does}
-use Rattle.network.specs.Check.{checked_of}
-use Rattle.answer.specs.declared.Decoded.{Decoded}
-use Rattle.answer.specs.Reading.{reading_of}
+use Rattle.network.specs.declared.Network.{Network}
+use Rattle.network.specs.Check.{Checked, checked_of}
+use Rattle.refusal.specs.declared.Refusal.{Refusal}
+use Rattle.refusal.specs.Refusal.{numbered, unless}
+use Rattle.refusal.specs.Refusal.Laws.{unless-ok}
+use Rattle.answer.specs.Reading.{reading_of, result_of}
 use Rattle.lrat.specs.declared.Checked.{Checked as Ended}
 use Rattle.lrat_check.specs.Refutation.{Lent, lent, check_answer, check_leaves}
 use Rattle.settle.specs.declared.Settlement.{Settlement}
@@ -51,72 +53,81 @@ module _ (q : Request) (answer refutation : List ℕ) (literals : List ℤ) (pai
     ),
   )
 
+  -- a reading that refuses
+  is-refused : (f : Refusal) → Err f ≡ result_of (reading_of q answer) → (x : Settlement) → x ≡ refused_with f → Answer x before
+  is-refused f g x e =
+      let r = refused_by f g in
+      let s = settles_refused q answer refutation before r.0 in
+      answered x before (record { says = e ∙ ap refused_with r.1 ∙ s.says; leaves = s.leaves })
+    where
+      refused_by : (f : Refusal) → Err f ≡ result_of (reading_of q answer) → ((reading_of q answer).refusal ≡ 0 → ⊥) × (f ≡ numbered (reading_of q answer).refusal)
+      refused_by f g = go (reading_of q answer).refusal (reading_of q answer).network g
+        where
+          go : (k : ℕ) (w : Network) → Err f ≡ unless k w → (k ≡ 0 → ⊥) × (f ≡ numbered k)
+          go zero w h = absurd (cc)
+          go (suc k) w h = (λ z. omega arith, cc)
+
   -- what the reading gave
-  module _ (d : Decoded) (d-is : d ≡ reading_of q answer) where
-    is-refused : (d.refusal ≡ 0 → ⊥) → (x : Settlement) → x ≡ refused_with d.refusal → Answer x before
-    is-refused h x e =
-        let n = ap (λ (y : Decoded). y.refusal) d-is in
-        let s = settles_refused q answer refutation before (λ z. h (n ∙ z)) in
-        answered x before (record { says = e ∙ ap refused_with n ∙ s.says; leaves = s.leaves })
+  module _ (w : Network) (w-is : Ok w ≡ result_of (reading_of q answer)) where
+    read-ok : ((reading_of q answer).refusal ≡ 0) × (w ≡ (reading_of q answer).network)
+    read-ok = let r = unless-ok (reading_of q answer).refusal (reading_of q answer).network w (sym w-is) in (r.0, sym r.1)
 
     -- what the check of its network gave
-    module _ (ok : d.refusal ≡ 0) (c : Checked) (c-is : c ≡ checked_of q d.network) where
-      is-judged : (x : Settlement) (l : Lent) (k : Checked) → c ≡ k → x ≡ judged k (verdict_below q refutation before) d.network
+    module _ (c : Checked) (c-is : c ≡ checked_of q w) where
+      is-judged : (x : Settlement) (l : Lent) (k : Checked) → c ≡ k → x ≡ judged k (verdict_below q refutation before) w
           → l ≡ slices_after k before (leaves_below q refutation before) → Answer x l
       is-judged x l k e f g =
-          let n = ap (λ (y : Decoded). y.network) d-is in
-          let s = settles_judged q answer refutation before (ap (λ (y : Decoded). y.refusal) (sym d-is) ∙ ok) k
-          (sym e ∙ c-is ∙ ap (checked_of q) n) in
-          answered x l (record { says = f ∙ ap (judged k (verdict_below q refutation before)) n ∙ s.says; leaves = g ∙ s.leaves })
+          let s = settles_judged q answer refutation before read-ok.0 k (sym e ∙ c-is ∙ ap (checked_of q) read-ok.1) in
+          answered x l (record { says = f ∙ ap (judged k (verdict_below q refutation before)) read-ok.1 ∙ s.says; leaves = g ∙ s.leaves })
 
-      is_zero : c ≡ Does → q.r ≡ 0 → (x : Settlement) → x ≡ record { verdict = Least; network = d.network } → Answer x before
+      is_zero : c ≡ Ok None → q.r ≡ 0 → (x : Settlement) → x ≡ record { verdict = Least; network = w } → Answer x before
       is_zero e z x f =
           let b = below_zero q refutation before z in
-          is-judged x before Does e (f ∙ ap (λ (v : Verdict). judged Does v d.network) b.0) b.1
+          is-judged x before (Ok None) e (f ∙ ap (λ (v : Verdict). judged (Ok None) v w) b.0) b.1
 
       -- the check of the refutation
-      is-more : c ≡ Does → (q.r ≡ 0 → ⊥) → (p : Request) → p ≡ smaller q
+      is-more : c ≡ Ok None → (q.r ≡ 0 → ⊥) → (p : Request) → p ≡ smaller q
           → (t : Ended) → t ≡ check_answer p refutation before → (l : Lent) → l ≡ check_leaves p refutation before
           → (v : Verdict) → v ≡ outcome_verdict t.outcome
-          → (x : Settlement) → x ≡ record { verdict = v; network = d.network } → Answer x l
+          → (x : Settlement) → x ≡ record { verdict = v; network = w } → Answer x l
       is-more e h p p-is t t-is l l-is v v-is x f =
           let b = below_more q refutation before h in
           let o = t-is ∙ ap (λ (y : Request). check_answer y refutation before) p-is in
-          is-judged x l Does e
-          (f ∙ ap (λ (u : Verdict). judged Does u d.network) (v-is ∙ ap (λ (y : Ended). outcome_verdict y.outcome) o ∙ b.0))
+          is-judged x l (Ok None) e
+          (f ∙ ap (λ (u : Verdict). judged (Ok None) u w) (v-is ∙ ap (λ (y : Ended). outcome_verdict y.outcome) o ∙ b.0))
           (l-is ∙ ap (λ (y : Request). check_leaves y refutation before) p-is ∙ b.1)
 
-pub returns-then-read-ne0 : goal.returns-then-read-ne0
-returns-then-read-ne0 c =
+pub returns-in-Err : goal.returns-in-Err
+returns-in-Err c =
     let p = is-refused c.args.q c.args.answer.now c.args.refutation.now c.args.literals.now c.args.pairs.now
-    c.args.added.now c.args.values.now _ c.read_answer-read.ensures c.if-read-ne0.true _ c.refused.ensures in
+    c.args.added.now c.args.values.now _ c.in-Err.ensures _ c.refused.ensures in
     record { settled = p.0; slices = p.1.0; least = p.1.1.0; number = p.1.1.1.0; values = p.1.1.1.1 }
 
 pub returns-then-q-eq0 : goal.returns-then-q-eq0
 returns-then-q-eq0 c =
     let p = is_zero c.args.q c.args.answer.now c.args.refutation.now c.args.literals.now c.args.pairs.now
-    c.args.added.now c.args.values.now _ c.read_answer-read.ensures c.if-read-ne0.false _ c.check_network-checked.ensures.answer
-    c.in-Does.is (omega (arith, c.if-q-eq0.true)) _ c.with_network-then-q-eq0.ensures in
+    c.args.added.now c.args.values.now _ c.in-Ok.ensures _ c.in-Ok-None.ensures.answer
+    (ap Ok c.in-Ok-None.field-0-is) (omega (arith, c.if-q-eq0.true)) _ c.with_network-then-q-eq0.ensures in
     record { settled = p.0; slices = p.1.0; least = p.1.1.0; number = p.1.1.1.0; values = p.1.1.1.1 }
 
-pub returns-in-Refused : goal.returns-in-Refused
-returns-in-Refused c =
+pub returns-in-Err-check_network : goal.returns-in-Err-check_network
+returns-in-Err-check_network c =
     let p = is-judged c.args.q c.args.answer.now c.args.refutation.now c.args.literals.now c.args.pairs.now
-    c.args.added.now c.args.values.now _ c.read_answer-read.ensures c.if-read-ne0.false _ c.check_network-checked.ensures.answer
-    _ _ _ c.in-Refused.is c.refused-in-Refused.ensures refl in
+    c.args.added.now c.args.values.now _ c.in-Ok.ensures _ c.in-Err-check_network.ensures.answer
+    _ _ _ refl c.refused-in-Err-check_network.ensures refl in
     record { settled = p.0; slices = p.1.0; least = p.1.1.0; number = p.1.1.1.0; values = p.1.1.1.1 }
 
-pub returns-in-Wrong : goal.returns-in-Wrong
-returns-in-Wrong c =
+pub returns-in-Ok-Some : goal.returns-in-Ok-Some
+returns-in-Ok-Some c =
     let p = is-judged c.args.q c.args.answer.now c.args.refutation.now c.args.literals.now c.args.pairs.now
-    c.args.added.now c.args.values.now _ c.read_answer-read.ensures c.if-read-ne0.false _ c.check_network-checked.ensures.answer
-    _ _ _ c.in-Wrong.is c.with_network.ensures refl in
+    c.args.added.now c.args.values.now _ c.in-Ok.ensures _ c.in-Ok-Some.ensures.answer
+    _ _ _ (ap Ok c.in-Ok-Some.field-0-is) c.with_network.ensures refl in
     record { settled = p.0; slices = p.1.0; least = p.1.1.0; number = p.1.1.1.0; values = p.1.1.1.1 }
 
 pub returns-else-q-eq0 : goal.returns-else-q-eq0
 returns-else-q-eq0 c =
     let p = is-more c.args.q c.args.answer.now c.args.refutation.now c.args.literals.now c.args.pairs.now
-    c.args.added.now c.args.values.now _ c.read_answer-read.ensures c.if-read-ne0.false _ c.check_network-checked.ensures.answer
-    c.in-Does.is (λ z. omega (arith, c.if-q-eq0.false))
-    _ c.one_fewer.ensures _ c.check-below.ensures.answer _ c.check-below.ensures.slices _ c.verdict_of.ensures _ c.with_network-in-Does.ensures in
+    c.args.added.now c.args.values.now _ c.in-Ok.ensures _ c.in-Ok-None.ensures.answer
+    (ap Ok c.in-Ok-None.field-0-is) (λ z. omega (arith, c.if-q-eq0.false))
+    _ c.one_fewer.ensures _ c.check-below.ensures.answer _ c.check-below.ensures.slices _ c.verdict_of.ensures _ c.with_network-in-Ok-None.ensures in
     record { settled = p.0; slices = p.1.0; least = p.1.1.0; number = p.1.1.1.0; values = p.1.1.1.1 }

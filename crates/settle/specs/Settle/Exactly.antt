@@ -1,17 +1,15 @@
 -- "least" is said exactly where the answer is taken, the network does the job and nothing smaller is left. Assumes nothing.
-use Rattle.std.specs.Prelude.{◌≡◌, refl, List, ◌⊎◌, ◌↔◌, ℕ}
+use Rattle.std.specs.Prelude.{◌≡◌, refl, List, ◌⊎◌, ◌↔◌, ℕ, Some, None, Ok, Err}
 use Rattle.std.proofs.Common.{sym, ap, ◌∙◌, inl, inr, ⊎_elim, arith}
 use Rattle.prelude.specs.Tests.{eq?}
 use Rattle.request.specs.declared.Request.{Request}
 use Rattle.network.specs.declared.Network.{Network}
-use Rattle.network.specs.declared.Checked.{Checked}
-use Rattle.network.specs.declared.Checked.TheVariants.{Does as does, Wrong, Refused as form_refused}
-use Rattle.network.specs.Check.{rows_answer, checked_of}
+use Rattle.refusal.specs.Refusal.{numbered}
+use Rattle.network.specs.Check.{Checked, rows_answer, checked_of}
 use Rattle.network.proofs.CheckLaws.{checked_rows}
 use Rattle.answer.specs.Reading.{reading_of}
 use Rattle.answer.proofs.ReadingMeaning.{assignment_in, taken_request, taken_describes, described_fits}
-use Rattle.lrat.specs.declared.Outcome.{Outcome}
-use Rattle.lrat.specs.declared.Outcome.TheVariants.{None, Refused as outcome_refused}
+use Rattle.lrat.specs.Outcome.{Outcome}
 use Rattle.lrat_check.specs.Refutation.{Lent, check_answer}
 use Rattle.settle.specs.declared.Settlement.{Settlement}
 use Rattle.settle.specs.declared.Verdict.{Verdict}
@@ -21,15 +19,15 @@ use Rattle.settle.specs.Settle.Laws.{settles_refused, settles_judged, below_zero
 
 -- ---- the verdict by the check of the network
 -- "least" is said only where the network does the job
-judged_least : (c : Checked) (v : Verdict) (w : Network) → (judged c v w).verdict ≡ Least → (c ≡ does) × (v ≡ Least)
-judged_least does v w e = (refl, e)
-judged_least (Wrong row) v w e = absurd (let z : ◌≡◌ {A = ℕ} 0 1 = cc in omega arith)
-judged_least (form_refused x) v w e = absurd (let z : ◌≡◌ {A = ℕ} 0 1 = cc in omega arith)
+judged_least : (c : Checked) (v : Verdict) (w : Network) → (judged c v w).verdict ≡ Least → (c ≡ Ok None) × (v ≡ Least)
+judged_least (Ok None) v w e = (refl, e)
+judged_least (Ok (Some row)) v w e = absurd (let z : ◌≡◌ {A = ℕ} 0 1 = cc in omega arith)
+judged_least (Err x) v w e = absurd (let z : ◌≡◌ {A = ℕ} 0 1 = cc in omega arith)
 
 -- ---- the verdict by the outcome of the refutation
-outcome_least : (o : Outcome) → outcome_verdict o ≡ Least → o ≡ None
-outcome_least None e = refl
-outcome_least (outcome_refused x) e = absurd (let z : ◌≡◌ {A = ℕ} 0 1 = cc in omega arith)
+outcome_least : (o : Outcome) → outcome_verdict o ≡ Least → o ≡ Ok tt
+outcome_least (Ok x) e = refl
+outcome_least (Err x) e = absurd (let z : ◌≡◌ {A = ℕ} 0 1 = cc in omega arith)
 
 -- ---- the verdict where the network does the job
 module _ (q : Request) (refutation : List ℕ) (s : Lent) where
@@ -39,7 +37,7 @@ module _ (q : Request) (refutation : List ℕ) (s : Lent) where
 
   -- k is 0, or the refutation for k−1 ends in "none"
   abbrev pub NoneBelow : Type 0
-  NoneBelow = (q.r ≡ 0) ⊎ ((check_answer (smaller q) refutation s).outcome ≡ None)
+  NoneBelow = (q.r ≡ 0) ⊎ ((check_answer (smaller q) refutation s).outcome ≡ Ok tt)
 
   below_least : verdict_below q refutation s ≡ Least → NoneBelow
   below_least e =
@@ -55,7 +53,7 @@ module _ (q : Request) (refutation : List ℕ) (s : Lent) where
 
 -- the check of a decoded network is answered by its rows
 pub decoded_rows : (q : Request) (answer : List ℕ) → (reading_of q answer).refusal ≡ 0
-    → rows_answer q (reading_of q answer).network ≡ checked_of q (reading_of q answer).network
+    → Ok (rows_answer q (reading_of q answer).network) ≡ checked_of q (reading_of q answer).network
 decoded_rows q answer taken =
     checked_rows q (reading_of q answer).network (taken_request q answer taken)
     (described_fits q (assignment_in q answer) (reading_of q answer).network (taken_describes q answer taken))
@@ -75,7 +73,7 @@ module _ (q : Request) (answer refutation : List ℕ) (s : Lent) where
   taken_verdict z = ap (λ (x : Settlement). x.verdict) (settles_judged q answer refutation s z checked refl).says
 
   pub refused_verdict : ((reading_of q answer).refusal ≡ 0 → ⊥)
-      → Refused (reading_of q answer).refusal ≡ (settlement q answer refutation s).verdict
+      → Refused (numbered (reading_of q answer).refusal) ≡ (settlement q answer refutation s).verdict
   refused_verdict d = ap (λ (x : Settlement). x.verdict) (settles_refused q answer refutation s d).says
 
   -- the settlement, where the check of the network is known
@@ -87,8 +85,8 @@ module _ (q : Request) (answer refutation : List ℕ) (s : Lent) where
   -- "none"
   pub record LeastConditions : Type 0 where
     pub taken : (reading_of q answer).refusal ≡ 0
-    pub does_job : checked_of q (reading_of q answer).network ≡ does
-    pub below : (q.r ≡ 0) ⊎ ((check_answer (smaller q) refutation s).outcome ≡ None)
+    pub does_job : checked_of q (reading_of q answer).network ≡ Ok None
+    pub below : (q.r ≡ 0) ⊎ ((check_answer (smaller q) refutation s).outcome ≡ Ok tt)
 
   pub least_conditions : (settlement q answer refutation s).verdict ≡ Least → LeastConditions
   least_conditions e =
@@ -98,14 +96,14 @@ module _ (q : Request) (answer refutation : List ℕ) (s : Lent) where
       record { taken = z; does_job = j.0; below = below_least q refutation s j.1 })
       (λ (d : (reading_of q answer).refusal ≡ 0 → ⊥).
       absurd
-      (let f : Refused (reading_of q answer).refusal ≡ Least = refused_verdict d ∙ e in
+      (let f : Refused (numbered (reading_of q answer).refusal) ≡ Least = refused_verdict d ∙ e in
       let z : ◌≡◌ {A = ℕ} 0 1 = cc in omega arith))
       (eq? (reading_of q answer).refusal 0)
 
   -- where they hold, "least" is said, with the decoded network
   pub conditions_least : LeastConditions → settlement q answer refutation s ≡ record { verdict = Least; network = (reading_of q answer).network }
   conditions_least t =
-      known t.taken does t.does_job ∙ ap (λ (v : Verdict). judged does v read) (least_below q refutation s t.below)
+      known t.taken (Ok None) t.does_job ∙ ap (λ (v : Verdict). judged (Ok None) v read) (least_below q refutation s t.below)
 
   -- "least" is said exactly where they hold
   pub least_exactly : ((settlement q answer refutation s).verdict ≡ Least) ↔ LeastConditions

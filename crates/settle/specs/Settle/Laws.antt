@@ -3,8 +3,8 @@ use Rattle.std.specs.Prelude.{◌≡◌, List, ℕ}
 use borrow.Author.Tests.{eq-eqb, ne_eqb}
 use Rattle.request.specs.declared.Request.{Request}
 use Rattle.network.specs.declared.Network.{Network}
-use Rattle.network.specs.declared.Checked.{Checked}
-use Rattle.network.specs.Check.{checked_of}
+use Rattle.refusal.specs.Refusal.{numbered}
+use Rattle.network.specs.Check.{Checked, checked_of}
 use Rattle.answer.specs.Reading.{reading_of}
 use Rattle.lrat_check.specs.Refutation.{Lent, check_answer, check_leaves}
 use Rattle.settle.specs.declared.Settlement.{Settlement}
@@ -34,7 +34,7 @@ module _ (q : Request) (answer refutation : List ℕ) (s : Lent) where
     pub leaves : l ≡ settle_leaves q answer refutation s
 
   -- a refused answer
-  pub settles_refused : ((reading_of q answer).refusal ≡ 0 → ⊥) → Settles (refused_with (reading_of q answer).refusal) s
+  pub settles_refused : ((reading_of q answer).refusal ≡ 0 → ⊥) → Settles (refused_with (numbered (reading_of q answer).refusal)) s
   unfolding settlement settle_leaves
   settles_refused d = let n = ne_eqb (reading_of q answer).refusal 0 d in record { says = rw n; leaves = rw n }
 

@@ -3,8 +3,7 @@ use Rattle.std.specs.Prelude.{◌≡◌, refl, true, false, List, [], ◌∷◌,
 use Rattle.std.proofs.Common.{sym, ap, ◌∙◌, append_assoc, arith, length-drop}
 use Rattle.prelude.specs.Lists.{Each}
 use Rattle.cnf.specs.declared.Literal.{Literal}
-use Rattle.numeral.specs.declared.Word.{Word}
-use Rattle.numeral.specs.Number.{byte_at, word, literal_at}
+use Rattle.numeral.specs.Number.{Read, byte_at, word, literal_at}
 use Rattle.numeral.specs.Number.Laws.{literal_plain, number_zero}
 use Rattle.text.specs.Text.{literal_text, literals_text, line_text}
 use Rattle.text.specs.Text.Laws.{literals_none, literals_more, line_text_lem}
@@ -34,7 +33,7 @@ module _ (t : List ℕ) (p : ℕ) (l : Literal) (ls : List Literal) (short : Sho
   line_after_lem = first_read.after
 
   -- what is read
-  abbrev word_here : Word
+  abbrev word_here : Read
   word_here = word (minus_of l) l.variable (end_of (p + 1) l)
 
   -- a space stands there

@@ -1,9 +1,9 @@
 -- Laws of decimal numerals: the last digit with those before it, and how many digits there are. Assumes nothing.
-use Rattle.std.specs.Prelude.{◌≡◌, cond, List, [], ◌∷◌, ◌++◌, ◌⊎◌, ℕ, zero, suc, ◌+◌, ◌^◌, ◌/◌, ◌%◌, ◌≤◌, ◌<◌, ltb, length}
-use Rattle.std.proofs.Common.{ap, ◌∙◌, append_assoc, inl, inr, ⊎_elim, not-suc-le-zero, pow-suc, arith, length-append, lt-ltb, le-ltb}
+use Rattle.std.specs.Prelude.{◌≡◌, cond, List, [], ◌∷◌, ◌++◌, ◌⊎◌, ℕ, zero, suc, ◌+◌, ◌*◌, ◌^◌, ◌/◌, ◌%◌, ◌≤◌, ◌<◌, ltb, length, max}
+use Rattle.std.proofs.Common.{refl, sym, ap, ◌∙◌, append_assoc, inl, inr, ⊎_elim, not-suc-le-zero, pow-suc, arith, length-append, lt-ltb, le-ltb}
 use Rattle.std.proofs.Math.Nat.{one-le-pow}
 use Rattle.prelude.specs.Tests.{le?}
-use Rattle.text.specs.Decimal.{digits, decimal, two, four}
+use Rattle.text.specs.Decimal.{digits, decimal, padded, two, four}
 
 -- two bounds on the digits before the last that give the same, if there are any
 enough_pick : (f g x : ℕ) → ((x / 10) < x → digits f (x / 10) ≡ digits g (x / 10)) → (10 ≤ x) ⊎ (x < 10)
@@ -60,6 +60,19 @@ length_low (suc k) x h =
 pub length_is : (k x : ℕ) → 10 ^ k ≤ x → x < 10 ^ suc k → suc k ≡ length (decimal x)
 length_is k x l h = let a = length_low k x l in let b = length_high k x h in omega arith
 
+-- no more than 1 is only the first power
+power_one : (k : ℕ) → 10 ^ k ≤ 1 → k ≡ 0
+power_one zero h = refl
+power_one (suc k) h = let p = pow-suc 10 k in let q = one-le-pow k 10 (omega arith) in omega arith
+
+-- as many as one more than the power of ten at or below it, or below 1 where it is 0
+pub length_power : (k x y : ℕ) → y ≡ max x 1 → 10 ^ k ≤ y → y < 10 * 10 ^ k → k + 1 ≡ length (decimal x)
+length_power k zero y e l h = let p = one-le-pow k 10 (omega arith) in let q = power_one k (rw e at l) in let d = length_digit 0 (omega arith) in omega arith
+length_power k (suc x) y e l h =
+    let p = pow-suc 10 k in
+    let d = length_is k (suc x) (omega arith) (omega arith) in
+    omega arith
+
 -- the last two digits with those before them
 pub decimal_hundred : (x : ℕ) → 100 ≤ x → decimal x ≡ decimal (x / 100) ++ two (x % 100)
 decimal_hundred x h =
@@ -88,3 +101,44 @@ decimal_three x l h = decimal_hundred x l ∙ ap (λ (d : List ℕ). d ++ two (x
 
 pub decimal_four : (x : ℕ) → 1000 ≤ x → x < 10000 → decimal x ≡ four x
 decimal_four x l h = decimal_hundred x (omega arith) ∙ ap (λ (d : List ℕ). d ++ two (x % 100)) (decimal_two (x / 100) (omega arith) (omega arith))
+
+-- two and four digits with leading zeros are the last two and four
+pub padded_two : (x : ℕ) → x < 100 → padded 2 x ≡ two x
+padded_two x h = let a : x / 10 % 10 ≡ x / 10 = omega arith in rw a refl
+
+pub padded_four : (x : ℕ) → x < 10000 → padded 4 x ≡ four x
+padded_four x h =
+    let a : x / 10 / 10 / 10 % 10 ≡ x / 100 / 10 = omega arith in
+    let b : x / 10 / 10 % 10 ≡ x / 100 % 10 = omega arith in
+    let c : x / 10 % 10 ≡ x % 100 / 10 = omega arith in
+    let d : x % 10 ≡ x % 100 % 10 = omega arith in
+    rw (a, b, c, d) refl
+
+-- so numbers of one to four digits are their last ones, and every other has its last four after those before them
+pub decimal_padded_one : (x : ℕ) → x < 10 → decimal x ≡ padded 1 x
+decimal_padded_one x h = decimal_digit x h
+
+pub decimal_padded_two : (x : ℕ) → 10 ≤ x → x < 100 → decimal x ≡ padded 2 x
+decimal_padded_two x l h = decimal_two x l h ∙ sym (padded_two x h)
+
+pub decimal_padded_three : (x : ℕ) → 100 ≤ x → x < 1000 → decimal x ≡ padded 3 x
+decimal_padded_three x l h =
+    let a : x / 10 / 10 % 10 ≡ x / 100 = omega arith in
+    let b : x / 10 % 10 ≡ x % 100 / 10 = omega arith in
+    let c : x % 10 ≡ x % 100 % 10 = omega arith in
+    decimal_three x l h ∙ rw (a, b, c) refl
+
+pub decimal_padded_four : (x : ℕ) → 1000 ≤ x → x < 10000 → decimal x ≡ padded 4 x
+decimal_padded_four x l h = decimal_four x l h ∙ sym (padded_four x h)
+
+pub decimal_padded_more : (x : ℕ) → 10000 ≤ x → decimal x ≡ decimal (x / 10000) ++ padded 4 (x % 10000)
+decimal_padded_more x h =
+    decimal_thousands x h ∙ ap (λ (l : List ℕ). decimal (x / 10000) ++ l) (sym (padded_four (x % 10000) (omega arith)))
+
+pub padded_length : (k x : ℕ) → length (padded k x) ≡ k
+padded_length zero x = refl
+padded_length (suc k) x = let e = length-append (padded k (x / 10)) ((48 + x % 10) ∷ []) in let r = padded_length k (x / 10) in omega arith
+
+-- a number that is its last k digits has k
+pub padded_digits : (k x : ℕ) → decimal x ≡ padded k x → length (decimal x) ≡ k
+padded_digits k x e = ap length e ∙ padded_length k x

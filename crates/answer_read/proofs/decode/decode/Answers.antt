@@ -6,4 +6,5 @@ use Rattle.answer_read.proofs.decode.decode.Goals as goal
 pub returns : goal.returns
 unfolding decoded
 returns c =
-    rw (← c.decode_literals-literals.ensures, ← (labels_decoded _ _ c.requires.2 c.args.n c.requires.1), ← c.find_labels-labels.ensures)
+    let q = c.args.good.request in
+    rw (← c.decode_literals-literals.ensures, ← (labels_decoded _ _ c.requires q.n c.args.good.good.r_high), ← c.find_labels-labels.ensures)

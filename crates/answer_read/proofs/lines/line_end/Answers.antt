@@ -1,19 +1,46 @@
--- No newline stands between the start and i. Assumes nothing.
-use native.Mathlib.Omega.{arith}
-use borrow.Author.Count.{below_more}
+-- The first newline from the place on is where the search finds one. Assumes nothing.
+use Rattle.std.proofs.Common.{◌≡◌, List, ℕ, ◌+◌, ◌-◌, ◌≤◌, ◌<◌, Option, Some, None, length, get_or, drop, length-drop, get_or-drop, sym, ap, ◌∙◌, rules, arith, subst}
+use Rattle.std.specs.Option.{MatchOption}
+use Rattle.std.specs.List.{AllWithin, HoldsAt}
+use Rattle.std.proofs.lemmas.Iterator.{YieldsList-from_slice, IsFirst-from_position}
+use Rattle.std.proofs.lemmas.Slice.{between_to_end}
+use borrow.Author.Tests.{tests}
+use Rattle.answer.specs.Lines.{line_end}
 use Rattle.answer.specs.Lines.Laws.{line_found, line_rest}
 use Rattle.answer_read.proofs.lines.line_end.Goals as goal
 
-pub loop-i-init : goal.loop-i-init
-loop-i-init c = (omega arith, omega arith, λ k h l e. omega arith)
+module _ (t : List ℕ) (p : ℕ) (inside : p ≤ length t) where
+  -- where no newline stands before the index i from p on
+  none_from : (i : ℕ) → AllWithin (λ x. x ≡ 10 → ⊥) (drop p t) 0 i → (k : ℕ) → k < p + i → p ≤ k → get_or t k 0 ≡ 10 → ⊥
+  none_from i m k l u e =
+      let z : k ≡ p + (k - p) = omega arith in
+      m (k - p) 0 (omega arith) (omega arith) (get_or-drop p t (k - p) 0 ∙ ap (λ (j : ℕ). get_or t j 0) (sym z) ∙ e)
 
-pub returns-then-text-i-eq10 : goal.returns-then-text-i-eq10
-returns-then-text-i-eq10 c =
-    line_found _ _ _ c.loop-i.invariant.0 c.loop-i.invariant.2 (omega arith) c.if-text-i-eq10.true
+  ended : (r : Option ℕ) → MatchOption r (AllWithin (λ x. x ≡ 10 → ⊥) (drop p t) 0 (length (drop p t)))
+      (λ i. (i < length (drop p t)) × HoldsAt (λ x. x ≡ 10) (drop p t) i × AllWithin (λ x. x ≡ 10 → ⊥) (drop p t) 0 i)
+      → MatchOption r (line_end t p ≡ length t) (λ i. (p + i ≡ line_end t p) × (p + i < length t))
+  ended None m =
+      let n = length-drop p t in
+      let z : p + length (drop p t) ≡ length t = omega arith in
+      sym (line_rest t p (p + length (drop p t)) (omega arith) (none_from _ m) (omega arith) (omega arith)) ∙ z
+  ended (Some i) m =
+      let n = length-drop p t in
+      let h : p + i < length t = omega (arith, m.0) in
+      (line_found t p (p + i) (omega arith) (none_from i m.2) h (sym (get_or-drop p t i 0) ∙ m.1 0), h)
 
-pub loop-i-preserved : goal.loop-i-preserved
-loop-i-preserved c =
-    (omega arith, omega arith, below_more _ _ c.loop-i.invariant.2 (λ l. c.if-text-i-eq10.false))
+found : (t : List ℕ) (p : ℕ) (r : Option ℕ) → p ≤ length t → {s : Option ℕ} → r ≡ s
+    → MatchOption r (AllWithin (λ x. x ≡ 10 → ⊥) (drop p t) 0 (length (drop p t)))
+    (λ i. (i < length (drop p t)) × HoldsAt (λ x. x ≡ 10) (drop p t) i × AllWithin (λ x. x ≡ 10 → ⊥) (drop p t) 0 i)
+    → MatchOption s (line_end t p ≡ length t) (λ i. (p + i ≡ line_end t p) × (p + i < length t))
+found t p r h e m = subst (λ (s : Option ℕ). MatchOption s (line_end t p ≡ length t) (λ i. (p + i ≡ line_end t p) × (p + i < length t))) e (ended t p h r m)
+
+pub returns-in_err-count : goal.returns-in_err-count
+returns-in_err-count c =
+    rw c.from_residual.ensures (found c.args.text.now c.args.at c.position.result c.requires c.in_err-count.was
+    (IsFirst-from_position _ _ _ (λ x. x ≡ 10) (λ x. x ≡ 10 → ⊥) c.position.ensures.ran (YieldsList-from_slice (drop c.args.at c.args.text.now) (c.iter.ensures.rest ∙ between_to_end c.args.text.now c.args.at (length c.args.text.now) (omega arith))) (λ x q k. search (rules, tests)) (λ x q k. search (rules, tests))))
 
 pub returns : goal.returns
-returns c = line_rest _ _ _ c.loop-i.invariant.0 c.loop-i.invariant.2 (omega arith) c.loop-i.invariant.1
+returns c =
+    let f = found c.args.text.now c.args.at c.position.result c.requires c.in_ok-count.was
+    (IsFirst-from_position _ _ _ (λ x. x ≡ 10) (λ x. x ≡ 10 → ⊥) c.position.ensures.ran (YieldsList-from_slice (drop c.args.at c.args.text.now) (c.iter.ensures.rest ∙ between_to_end c.args.text.now c.args.at (length c.args.text.now) (omega arith))) (λ x q k. search (rules, tests)) (λ x q k. search (rules, tests))) in
+    (f.0, omega arith, f.1)

@@ -1,32 +1,44 @@
 -- Each branch is one of the definition. Assumes nothing.
-use Rattle.answer.proofs.ReadingLaws.{ended_refused, ended_phase, ended_missing, ended_fails, ended_taken}
+use Rattle.std.proofs.Common.{◌≡◌, true, false, not, refl, sym, ap, ◌∙◌, arith}
+use denote.Enum.Bare.{sameb}
+use Rattle.answer.specs.contracts.Phase.{the_type}
+use Rattle.answer.specs.declared.Phase.{Phase}
+use Rattle.answer.specs.declared.Phase.TheVariants.{Before, Naming, After}
+use Rattle.answer.proofs.ReadingLaws.{good_most, ended_phase, ended_missing, ended_fails, ended_taken}
 use Rattle.answer.proofs.ReadingMeaning.{nets_hold}
-use mathlib.Core.Path.{sym, ◌∙◌}
+use Rattle.answer.specs.Reading.{result_of, phase_number}
 use Rattle.answer_read.proofs.read.judge.Goals as goal
 
-pub returns-then-l-ne0 : goal.returns-then-l-ne0
-returns-then-l-ne0 c = c.refused.ensures ∙ ended_refused _ _ c.if-l-ne0.true
+-- the test of the phase
+not_after : (p : Phase) → not (sameb the_type p After) ≡ true → phase_number p ≡ 2 → ⊥
+not_after Before e z = omega arith
+not_after Naming e z = omega arith
+not_after After e z = cc
 
-pub returns-then-l-ne2 : goal.returns-then-l-ne2
-returns-then-l-ne2 c = c.refused-then-l-ne2.ensures ∙ ended_phase _ _ c.if-l-ne0.false c.if-l-ne2.true
+is_after : (p : Phase) → not (sameb the_type p After) ≡ false → phase_number p ≡ 2
+is_after Before e = cc
+is_after Naming e = cc
+is_after After e = refl
+
+pub returns-then-ne : goal.returns-then-ne
+returns-then-ne c = ap result_of (ended_phase _ _ refl (not_after _ (sym c.ne.ensures ∙ c.if-ne.true)))
+
+pub all_named-requires : goal.all_named-requires
+all_named-requires c = omega (arith, good_most _ _ c.args.good.good c.requires)
 
 pub returns-then-not-all_named : goal.returns-then-not-all_named
 returns-then-not-all_named c =
-    c.refused-then-not-all_named.ensures
-    ∙ ended_missing _ _ c.if-l-ne0.false c.if-l-ne2.false c.args.keep c.all_named.result c.requires.1 c.all_named.ensures (c.if-not-all_named.true)
+    ap result_of (ended_missing _ _ refl (is_after _ (sym c.ne.ensures ∙ c.if-ne.false)) c.args.keep _ c.requires c.all_named.ensures c.if-not-all_named.true)
 
 pub returns-then-not-clauses_hold : goal.returns-then-not-clauses_hold
 returns-then-not-clauses_hold c =
-    c.refused-then-not-clauses_hold.ensures
-    ∙ ended_fails _ _ c.if-l-ne0.false c.if-l-ne2.false c.args.keep c.all_named.result c.requires.1 c.all_named.ensures (c.if-not-all_named.false)
-    c.clauses_hold.result c.clauses_hold.ensures (c.if-not-clauses_hold.true)
+    ap result_of (ended_fails _ _ refl (is_after _ (sym c.ne.ensures ∙ c.if-ne.false)) c.args.keep _ c.requires c.all_named.ensures c.if-not-all_named.false
+    _ c.clauses_hold.ensures c.if-not-clauses_hold.true)
 
-pub decode-w-requires : goal.decode-w-requires
-decode-w-requires c =
-    let p = c.requires in
-    (p.0.n_high, p.0.r_high, nets_hold _ _ p.0 (sym c.clauses_hold.ensures ∙ c.if-not-clauses_hold.false))
+pub decode-requires : goal.decode-requires
+decode-requires c = nets_hold _ _ c.args.good.good (sym c.clauses_hold.ensures ∙ c.if-not-clauses_hold.false)
 
 pub returns : goal.returns
 returns c =
-    ended_taken _ _ c.if-l-ne0.false c.if-l-ne2.false c.args.keep c.all_named.result c.requires.1 c.all_named.ensures (c.if-not-all_named.false)
-    c.clauses_hold.result c.clauses_hold.ensures (c.if-not-clauses_hold.false) c.decode-w.result c.decode-w.ensures
+    ap result_of (ended_taken _ _ refl (is_after _ (sym c.ne.ensures ∙ c.if-ne.false)) c.args.keep _ c.requires c.all_named.ensures c.if-not-all_named.false
+    _ c.clauses_hold.ensures c.if-not-clauses_hold.false _ c.decode.ensures)

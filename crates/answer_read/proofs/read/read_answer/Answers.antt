@@ -1,24 +1,39 @@
 -- A refused request, or what the lines give, judged. Assumes nothing.
-use Rattle.answer.proofs.ReadingLaws.{reading_refused, reading_good, reading_most, reading_taken}
-use mathlib.Core.Path.{◌∙◌}
-use mathlib.Core.List.{[]}
+use Rattle.std.proofs.Common.{sym, ap, ◌∙◌, Err}
+use Rattle.std.proofs.lemmas.Result.{err_from_is_err_and}
+use Rattle.refusal.specs.Refusal.{number_of}
+use Rattle.formula.proofs.CountLaws.{sizes_refusal}
+use Rattle.answer.specs.Reading.{Lines, result_of, ended}
+use Rattle.answer.proofs.ReadingLaws.{result_refused, result_lines, reading_taken, sizes_top, good_most}
 use Rattle.answer_read.proofs.read.read_answer.Goals as goal
 
-pub returns-then-size-ne0 : goal.returns-then-size-ne0
-returns-then-size-ne0 c =
-    c.refused.ensures ∙ reading_refused _ _ c.count-size.result c.count-size.ensures c.if-size-ne0.true
+pub returns-in_err-size : goal.returns-in_err-size
+returns-in_err-size c =
+    let p = err_from_is_err_and c.from_residual.result c.from_residual.ensures.1 in
+    p.1 ∙ ap Err p.2 ∙ result_refused _ _ _ (ap number_of c.in_err-size.ensures ∙ sizes_refusal c.args.q)
 
-pub read_lines-l-requires : goal.read_lines-l-requires
-read_lines-l-requires c =
-    reading_most _ [] c.count-size.result c.count-size.ensures c.if-size-ne0.false _ c.network_variables-keep.ensures.0
+pub returns-in_err-good : goal.returns-in_err-good
+returns-in_err-good c =
+    let r = c.from_residual-in_err-good in
+    let p = err_from_is_err_and r.result r.ensures.1 in
+    p.1 ∙ ap Err p.2 ∙ result_refused _ _ _ c.in_err-good.ensures.number
 
-pub judge-requires : goal.judge-requires
-judge-requires c =
-    let z = c.count-size.result in
-    let e = c.count-size.ensures in
-    let k = c.network_variables-keep.ensures.0 in
-    (reading_good _ [] z e c.if-size-ne0.false, k, reading_most _ [] z e c.if-size-ne0.false _ k)
+pub invariant_of-named : goal.invariant_of-named
+invariant_of-named c =
+    let good = rw c.in_ok-good.ensures.request at c.in_ok-good.good.good in
+    record { few = good_most c.args.q _ good c.network_variables-keep.ensures.0 }
+
+pub returns-in_err-progress : goal.returns-in_err-progress
+returns-in_err-progress c =
+    let r = c.from_residual-in_err-progress in
+    let p = err_from_is_err_and r.result r.ensures.1 in
+    let z = sizes_top _ _ c.in_ok-size.ensures in
+    p.1 ∙ ap Err p.2 ∙ result_lines c.args.q _ _ c.in_err-progress.ensures
+    ∙ ap result_of (reading_taken c.args.q _ z.0 _ c.network_variables-keep.ensures.0 _ z.1)
 
 pub returns : goal.returns
 returns c =
-    c.judge.ensures ∙ reading_taken _ _ c.count-size.result c.count-size.ensures c.if-size-ne0.false _ c.network_variables-keep.ensures.0 c.read_lines-l.result c.read_lines-l.ensures
+    let z = sizes_top _ _ c.in_ok-size.ensures in
+    rw c.in_ok-good.ensures.request at c.judge.ensures
+    ∙ ap (λ (l : Lines). result_of (ended c.args.q l)) (sym c.in_ok-progress.ensures)
+    ∙ ap result_of (reading_taken c.args.q _ z.0 _ c.network_variables-keep.ensures.0 _ z.1)

@@ -1,27 +1,22 @@
--- The lines from the top are the lines read, going on with what is left. Assumes nothing.
-use Rattle.answer.proofs.ReadingLaws.{lines_end, lines_spent, lines_refused, lines_more}
-use mathlib.Core.Path.{refl, sym, ◌∙◌}
-use native.Mathlib.Omega.{arith}
+-- What is left of the lines gives what all of them give. Assumes nothing.
+use Rattle.std.proofs.Common.{length, refl, sym, ap, ◌∙◌, subst, Err, arith}
+use Rattle.std.proofs.lemmas.Result.{err_from_is_err_and}
+use Rattle.answer.specs.Reading.{LinesBy}
+use Rattle.answer.proofs.ReadingLaws.{left_none, left_refused, left_more}
 use Rattle.answer_read.proofs.read.read_lines.Goals as goal
 
-pub loop-left-init : goal.loop-left-init
-loop-left-init c = refl
+pub loop-at-init : goal.loop-at-init
+loop-at-init c = (length c.args.text.now, omega arith, refl)
 
-pub returns-then-text-at : goal.returns-then-text-at
-returns-then-text-at c = lines_end _ _ _ _ _ _ _ c.if-text-at.true ∙ sym c.loop-left.invariant
+pub returns-in_err-at : goal.returns-in_err-at
+returns-in_err-at c =
+    let p = err_from_is_err_and c.from_residual.result c.from_residual.ensures.1 in
+    subst (LinesBy _) (sym (p.1 ∙ ap Err p.2))
+    (left_refused _ _ _ c.loop-at.at c.loop-at.progress c.loop-at-test.true c.loop-at.invariant _ c.in_err-at.ensures.step)
 
-pub returns-then-l-ne0 : goal.returns-then-l-ne0
-returns-then-l-ne0 c =
-    lines_refused _ _ _ _ _ _ _ c.read_line-l.result (omega (arith, c)) (omega (arith, c)) c.read_line-l.ensures c.if-l-ne0.true
-    ∙ sym c.loop-left.invariant
-
-pub loop-left-smaller : goal.loop-left-smaller
-loop-left-smaller c = omega (arith, c)
-
-pub loop-left-preserved : goal.loop-left-preserved
-loop-left-preserved c =
-    c.loop-left.invariant
-    ∙ lines_more _ _ _ _ _ _ _ c.read_line-l.result (omega (arith, c)) (omega (arith, c)) c.read_line-l.ensures c.if-l-ne0.false
+pub loop-at-preserved : goal.loop-at-preserved
+loop-at-preserved c =
+    left_more _ _ _ c.loop-at.at c.loop-at.progress c.loop-at-test.true c.loop-at.invariant _ _ c.in_ok-at.ensures.further c.in_ok-at.ensures.step
 
 pub returns : goal.returns
-returns c = lines_spent _ _ _ _ _ _ _ (omega arith) ∙ sym c.loop-left.invariant
+returns c = left_none _ _ _ c.loop-at.at c.loop-at.progress c.loop-at-test.false c.loop-at.invariant

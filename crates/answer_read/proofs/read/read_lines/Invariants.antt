@@ -1,13 +1,14 @@
--- The lines from the top are the lines read, going on with what is left. Assumes nothing.
+-- What is left of the lines gives what all of them give. Assumes nothing.
 use Rattle.answer.specs.Reading.{lines_from}
+use Rattle.answer.proofs.ReadingLaws.{Left}
 use Rattle.formula.specs.Count.{values_most}
-use mathlib.Core.Path.{◌≡◌}
+use Prim.Native.Nat.{◌-◌}
 use lib.ListN.{length, replicate}
 use Rattle.answer_read.proofs.read.read_lines.Given as goal
 
-abbrev pub invariant-loop-left : goal.invariant-loop-left
-invariant-loop-left l =
-    lines_from l.top l.keep l.text (length l.text) 0 0 (replicate values_most 0) ≡ lines_from l.top l.keep l.text l.left l.at l.phase l.values
+abbrev pub invariant-loop-at : goal.invariant-loop-at
+invariant-loop-at l =
+    Left l.named.top l.named.keep l.text (lines_from l.named.top l.named.keep l.text (length l.text) 0 0 (replicate values_most 0)) l.at l.progress
 
-abbrev pub decreases-loop-left : goal.decreases-loop-left
-decreases-loop-left l = l.left
+abbrev pub decreases-loop-at : goal.decreases-loop-at
+decreases-loop-at l = length l.text - l.at

@@ -1,31 +1,17 @@
--- A refused request has no sizes; those of any other are counted. Assumes nothing.
-use mathlib.Core.Path.{sym, ◌∙◌}
-use borrow.Author.Tests.{ne_eqb}
-use Rattle.request.specs.Numbers.{Good, refusal_of}
-use Rattle.formula.specs.Count.{sizes_of}
-use Rattle.formula_clauses.specs.Block.Laws.{request_good}
+-- The sizes are those of a request that is not refused. Assumes nothing.
+use Rattle.std.proofs.lemmas.Result.{err_from_is_err_and}
+use Rattle.request.specs.Numbers.{refusal_of}
+use Rattle.formula.specs.Count.{counts_of, sizes_of}
+use Rattle.refusal.specs.Refusal.Laws.{refused_by, taken_by}
 use Rattle.formula_clauses.proofs.count.count.Goals as goal
 
-pub returns-then-refusal-ne0 : goal.returns-then-refusal-ne0
+pub returns-in_err-good : goal.returns-in_err-good
 unfolding sizes_of
-returns-then-refusal-ne0 c = rw (ne_eqb (refusal_of c.args.q) 0 (λ z. c.if-refusal-ne0.true (c.test_request-refusal.ensures ∙ z)), ← c.test_request-refusal.ensures)
-
-pub variable_count-requires : goal.variable_count-requires
-variable_count-requires c =
-    let good : Good c.args.q = request_good c.args.q c.test_request-refusal.ensures c.if-refusal-ne0.false in
-    good
-
-pub clause_count-requires : goal.clause_count-requires
-clause_count-requires c =
-    let good : Good c.args.q = request_good c.args.q c.test_request-refusal.ensures c.if-refusal-ne0.false in
-    good
-
-pub literal_count-requires : goal.literal_count-requires
-literal_count-requires c =
-    let good : Good c.args.q = request_good c.args.q c.test_request-refusal.ensures c.if-refusal-ne0.false in
-    good
+returns-in_err-good c =
+    let p = err_from_is_err_and c.from_residual.result c.from_residual.ensures.1 in
+    rw (p.1, p.2) (refused_by c.in_err-good.field-0.0 (refusal_of c.args.q) (counts_of c.args.q) c.in_err-good.ensures.number)
 
 pub returns : goal.returns
 unfolding sizes_of
 returns c =
-    rw (sym c.test_request-refusal.ensures ∙ c.if-refusal-ne0.false, c.variable_count.ensures, c.clause_count.ensures, c.literal_count.ensures)
+    rw (c.sizes.ensures, c.in_ok-good.ensures.request) (taken_by (refusal_of c.args.q) (counts_of c.args.q) c.in_ok-good.ensures.number)

@@ -1,25 +1,13 @@
 -- So many for groups 1 and 2, and so many for each on row and each off row. Assumes nothing.
-use mathlib.Core.Path.{ap₂, ◌∙◌}
-use Prim.Native.Nat.{ℕ, ◌+◌, ◌^◌}
-use native.Mathlib.Omega.{arith}
+use Rattle.std.proofs.Common.{ℕ, ◌+◌, ◌^◌, ap, ap₂, ◌∙◌}
 use Rattle.formula.specs.Count.{split, literal_count, literals_before}
 use Rattle.formula_clauses.proofs.count.literal_count.Goals as goal
-
-pub on_row_literals-on-requires : goal.on_row_literals-on-requires
-on_row_literals-on-requires c = let g = c.requires in let h = g.n_high in let k = g.r_high in let l = g.m_high in (omega arith, omega arith, omega arith)
-
-pub off_row_literals-off-requires : goal.off_row_literals-off-requires
-off_row_literals-off-requires c = let g = c.requires in let h = g.n_high in let k = g.r_high in let l = g.m_high in (omega arith, omega arith)
-
-pub weighted_all-requires : goal.weighted_all-requires
-weighted_all-requires c =
-    let g = c.requires in let h = g.n_high in let k = g.r_high in let l = g.m_high in
-    (g, omega arith, omega arith)
 
 pub returns : goal.returns
 unfolding literal_count literals_before
 returns c =
-    let q = c.args.q in
+    let q = c.args.good.request in
     ap₂ (λ (x y : ℕ). x + y) c.network_literals.ensures.0
-    (c.weighted_all.ensures.0
+    (c.weighted.ensures.0
+    ∙ ap (split q c.on_row_literals-on.result c.off_row_literals-off.result) c.row_count.ensures.0
     ∙ ap₂ (λ (x y : ℕ). split q x y (2 ^ q.n)) c.on_row_literals-on.ensures.0 c.off_row_literals-off.ensures.0)

@@ -1,7 +1,7 @@
 -- Each switch has the same number of clauses, so the quotient is the switch; the remainder is 0 at the long clause, and one more
 -- than the number of a pair elsewhere. Assumes nothing.
 use Rattle.cnf.specs.Cnf.{neg}
-use Rattle.formula.specs.Formula.Groups.{choice_switch, choice_pair, choice_long_is, choice_pair_is}
+use Rattle.formula.specs.Formula.Groups.{choice_switch, choice_long_is, choice_pair_is}
 use Rattle.formula.specs.Clause.{run}
 use Rattle.formula.proofs.ClauseLaws.{negative_is}
 use mathlib.Core.Path.{ap, ◌∙◌}
@@ -23,12 +23,6 @@ returns-then-part-eq0 c =
           (ap (λ (x : ℕ). run x (2 * a.n)) c.chosen.ensures),
       λ e. absurd (omega arith),
     )
-
-pub pair_at-p-requires : goal.pair_at-p-requires
-pair_at-p-requires c =
-    let z = c.choice_count-count in
-    let l = choice_pair c.args.n c.args.number z.result z.ensures.0 (omega arith) in
-    (omega arith, l)
 
 pub chosen-requires-2 : goal.chosen-requires-2
 chosen-requires-2 c =

@@ -1,43 +1,32 @@
--- The clauses below `low` are no more than the number, and those below `high` are more. Assumes nothing.
-use mathlib.Core.Path.{◌≡◌, subst}
-use Prim.Native.Nat.{ℕ, ◌+◌, ◌<◌}
-use native.Mathlib.Omega.{arith}
-use lib.Pow.{pow_pos}
-use Rattle.request.proofs.NumbersLaws.{rows_high, rows_shl}
+-- The first row whose clauses, with those of the rows below, are more than the number. Assumes nothing.
+use Rattle.std.proofs.Common.{ℕ, zero, suc, ◌<◌, ◌≤◌, ◌+◌, Option, None, Some, add-one, arith, rules, tests}
+use Rattle.std.specs.Option.{MatchOption}
+use Rattle.std.proofs.lemmas.Iterator.{first_from_Range}
+use Rattle.request.specs.declared.Request.{Request}
 use Rattle.formula.specs.Count.{split}
 use Rattle.formula.proofs.CountLaws.{split_none}
 use Rattle.formula_clauses.proofs.number.row_of.Goals as goal
 
-pub overflow_shl-rows : goal.overflow_shl-rows
-overflow_shl-rows c = omega (arith, c.requires.0.n_high)
+module _ (q : Request) (a b number : ℕ) where
+  -- the clauses below row k are no more than the number where those of each row below are
+  below : (k : ℕ) → ((j : ℕ) → 0 ≤ j → j < k → split q a b (j + 1) ≤ number) → split q a b k ≤ number
+  below zero h = omega (arith, split_none q a b)
+  below (suc k) h = rw add-one at (h k (omega arith) (omega arith))
 
-pub loop-low-init : goal.loop-low-init
-loop-low-init c =
-    let p = rows_shl c.args.q.n 32 c.requires.0.n_high (omega arith) in
-    let z = split_none c.args.q c.args.on c.args.off in
-    let o = pow_pos c.args.q.n in
-    (omega (arith, p, o), omega arith, omega (arith, z), rw p c.requires.3)
-
-pub overflow_add-middle : goal.overflow_add-middle
-overflow_add-middle c = omega (arith, c.loop-low.invariant.1, rows_shl c.args.q.n 32 c.requires.0.n_high (omega arith), rows_high c.args.q.n c.requires.0.n_high)
-
-pub weighted-requires : goal.weighted-requires
-weighted-requires c =
-    let l = c.loop-low.invariant in
-    (c.requires.0, omega (arith, l.1, rows_shl c.args.q.n 32 c.requires.0.n_high (omega arith)), c.requires.1, c.requires.2)
-
-pub loop-low-preserved-then-weighted-number : goal.loop-low-preserved-then-weighted-number
-loop-low-preserved-then-weighted-number c =
-    let l = c.loop-low.invariant in
-    (omega arith, l.1, omega (arith, c.weighted.ensures.0), l.3)
-
-pub loop-low-preserved : goal.loop-low-preserved
-loop-low-preserved c =
-    let l = c.loop-low.invariant in
-    (omega arith, omega (arith, l.1), l.2, omega (arith, c.weighted.ensures.0))
+  found : (rows : ℕ) → (r : Option ℕ)
+      → MatchOption r ((k : ℕ) → 0 ≤ k → k < rows → split q a b (k + 1) ≤ number)
+      (λ k. (0 ≤ k) × (k < rows) × (number < split q a b (k + 1)) × ((j : ℕ) → 0 ≤ j → j < k → split q a b (j + 1) ≤ number))
+      → MatchOption r (split q a b rows ≤ number) (λ k. (k < rows) × (split q a b k ≤ number) × (number < split q a b (k + 1)))
+  found rows None h = below rows h
+  found rows (Some k) h = (h.1, below k h.3, h.2)
 
 pub returns : goal.returns
 returns c =
-    let l = c.loop-low in
-    let e : l.high ≡ l.low + 1 = omega (arith, l.invariant.0) in
-    (omega (arith, l.invariant.0, l.invariant.1, rows_shl c.args.q.n 32 c.requires.0.n_high (omega arith)), l.invariant.2, subst (λ (k : ℕ). c.args.number < split c.args.q c.args.on c.args.off k) e l.invariant.3)
+    let q = c.args.good.request in
+    let a = c.args.on in
+    let b = c.args.off in
+    let h =
+    first_from_Range _ _ _ c.find.result (λ k. c.args.number < split q a b (k + 1)) (λ k. split q a b (k + 1) ≤ c.args.number) c.find.ensures.ran
+    (λ x q k. grind (arith, tests)) (λ x q k. (search rules, grind (arith, tests))) in
+    let f = found q a b c.args.number c.row_count.result c.find.result h in
+    rw c.row_count.ensures.0 at f

@@ -2,14 +2,7 @@
 use Rattle.formula.specs.Formula.Laws.{pair_x}
 use Rattle.formula.proofs.FormulaOffRow.{net_side_is}
 use mathlib.Core.Path.{sym}
-use native.Mathlib.Omega.{arith}
 use Rattle.formula_clauses.proofs.off_row.net_side_at.Goals as goal
-
-pub side-requires : goal.side-requires
-side-requires c = let p = c.pair_at-p.ensures in let u = p.up in let w = p.within in (omega arith, omega arith)
-
-pub side-requires-2 : goal.side-requires-2
-side-requires-2 c = let w = c.pair_at-p.ensures.within in (omega arith, omega arith)
 
 pub returns : goal.returns
 returns c =

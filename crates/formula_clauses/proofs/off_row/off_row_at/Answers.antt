@@ -18,11 +18,6 @@ returns-then-number-eq1 c = (run_one _ ∙ off_row_sink _ _ _ _ _ _ _ c.if-numbe
 pub returns-then-rest-sides : goal.returns-then-rest-sides
 returns-then-rest-sides c = (off_row_net _ _ _ _ _ _ _ (omega arith) (omega arith) c.net_side_at.ensures.0, c.net_side_at.ensures.1)
 
-pub switch_side_at-requires : goal.switch_side_at-requires
-switch_side_at-requires c =
-    let p = c.requires in
-    (p.0, p.1, p.2, p.3, p.4, omega arith)
-
 pub returns : goal.returns
 returns c = (
   off_row_switch _ _ _ _ _ _ (2 * c.pairs_below-sides.result) _ (omega arith) (omega arith) (omega arith)

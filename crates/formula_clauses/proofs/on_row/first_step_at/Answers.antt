@@ -11,6 +11,6 @@ pub returns : goal.returns
 returns c = (
   ap₂ (λ (x y : Literal). x ∷ y ∷ []) (c.negative.ensures ∙ ap neg c.entered.ensures)
       (c.positive.ensures ∙ ap pos c.joined.ensures)
-      ∙ sym (first_at _ _ _ c.requires.2),
+      ∙ sym (first_at _ _ _ c.requires),
   negative_is c.negative.ensures,
 )

@@ -12,10 +12,10 @@ use Rattle.formula_clauses.proofs.on_row.last_step_at.Goals as goal
 
 pub returns : goal.returns
 returns c =
-    let r = c.args.r in (
+    let r = c.args.row.r in (
       ap₂ (λ (x y : Literal). x ∷ y ∷ []) (c.negative.ensures ∙ ap neg c.entered.ensures)
           (c.positive.ensures
           ∙ ap pos (c.joined.ensures ∙ ap (λ (i : ℕ). X (terminals r) i (sink r)) c.other_end.ensures.0))
-          ∙ sym (last_at _ _ _ _ c.requires.4),
+          ∙ sym (last_at _ _ _ _ c.requires.1),
       negative_is c.negative.ensures,
     )

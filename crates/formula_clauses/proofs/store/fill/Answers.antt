@@ -8,7 +8,6 @@ use lib.ListN.{length}
 use Rattle.prelude.specs.Blocks.{flatten, pairs_from}
 use Rattle.prelude.specs.Written.{written}
 use Rattle.cnf.specs.Cnf.{Formula}
-use Rattle.request.proofs.NumbersLaws.{rows_high, rows_shl}
 use Rattle.formula.specs.Formula.{network_variables}
 use Rattle.formula.specs.Count.{variables_before}
 use Rattle.formula.proofs.CountLaws.{clause_count_lem, split_none}
@@ -18,76 +17,42 @@ use Rattle.formula_clauses.specs.Store.{signs}
 use Rattle.formula_clauses.specs.Store.Laws.{below_none, below_room, below_more, below_all}
 use Rattle.formula_clauses.proofs.store.fill.Goals as goal
 
-pub overflow_shl-rows : goal.overflow_shl-rows
-overflow_shl-rows c = omega (arith, c.requires.good.n_high)
-
 pub loop-b-init : goal.loop-b-init
 unfolding variables_before
 loop-b-init c =
-    let q = c.args.q in
+    let q = c.args.good.request in
     (below_none _ _ _, c.network_variables-before.ensures.0 ∙ sym (add-zero _) ∙ ap (λ (x : ℕ). network_variables q.n q.r + x) (sym (split_none q (q.m * (2 * q.r + 1)) (2 * q.r + 2))))
 
 pub block_from-block-requires : goal.block_from-block-requires
 block_from-block-requires c =
-    let there : c.loop-b.b ≤ 2 ^ c.args.q.n = omega (arith, c.loop-b-test.true, rows_shl c.args.q.n 32 c.requires.good.n_high (omega arith)) in
+    let there : c.loop-b.b ≤ 2 ^ c.args.good.request.n = omega arith in
     let e = c.loop-b.invariant.1 in
-    (c.requires.good, there, e, subst (λ (x : ℕ). x ≤ 65535) (sym e) (before_most c.args.q (c.loop-b.b - 1) c.requires.good (omega (arith, there))))
-
-pub block_count-count-requires : goal.block_count-count-requires
-block_count-count-requires c =
-    let g = c.requires.good in
-    let h = g.n_high in
-    let k = g.r_high in
-    let m = g.m_high in
-    (omega arith, omega arith, omega arith)
-
-pub block_variables-before-requires : goal.block_variables-before-requires
-block_variables-before-requires c =
-    let g = c.requires.good in
-    let k = g.r_high in
-    let m = g.m_high in
-    (omega arith, omega arith)
-
-pub overflow_add-before : goal.overflow_add-before
-overflow_add-before c =
-    let there : c.loop-b.b ≤ 2 ^ c.args.q.n = omega (arith, c.loop-b-test.true, rows_shl c.args.q.n 32 c.requires.good.n_high (omega arith)) in
-    let next : c.loop-b.before + c.block_variables-before.result ≡ variables_before c.args.q c.loop-b.b = let q = c.args.q in
-    let v = c.block_variables-before.ensures.0 ∙ ap (block_variables q.r q.m) c.block_from-block.ensures.0 in
-    omega (arith, v, c.loop-b.invariant.1, before_more q c.loop-b.b) in
-    omega (arith, next, before_most c.args.q c.loop-b.b c.requires.good there)
+    (there, e, subst (λ (x : ℕ). x ≤ 65535) (sym e) (before_most c.args.good.request (c.loop-b.b - 1) c.requires.good (omega (arith, there))))
 
 pub fill_block-at-requires : goal.fill_block-at-requires
 fill_block-at-requires c =
-    let there : c.loop-b.b ≤ 2 ^ c.args.q.n = omega (arith, c.loop-b-test.true, rows_shl c.args.q.n 32 c.requires.good.n_high (omega arith)) in
-    let counted : c.block_count-count.result ≡ length (block_clauses c.args.q.n c.args.q.r c.args.q.m c.block_from-block.result) = let q = c.args.q in
+    let there : c.loop-b.b ≤ 2 ^ c.args.good.request.n = omega arith in
+    let counted : c.block_count-count.result ≡ length (block_clauses c.args.good.request.n c.args.good.request.r c.args.good.request.m c.block_from-block.result) = let q = c.args.good.request in
     c.block_count-count.ensures.0 ∙ sym (block_length q.n q.r q.m c.block_from-block.result) in
-    (counted, below_room _ _ _ c.requires _ _ _ _ _ c.loop-b.invariant.0 there c.block_from-block.ensures.0 c.block_from-block.ensures.1)
+    record { count = counted; room = below_room _ _ _ c.requires _ _ _ _ _ c.loop-b.invariant.0 there c.block_from-block.ensures.0 c.block_from-block.ensures.1 }
 
 pub overflow_add-first : goal.overflow_add-first
 overflow_add-first c =
-    let there : c.loop-b.b ≤ 2 ^ c.args.q.n = omega (arith, c.loop-b-test.true, rows_shl c.args.q.n 32 c.requires.good.n_high (omega arith)) in
-    let block-is : block_clauses c.args.q.n c.args.q.r c.args.q.m c.block_from-block.result ≡ clauses_of c.args.q c.loop-b.b = let q = c.args.q in
+    let there : c.loop-b.b ≤ 2 ^ c.args.good.request.n = omega arith in
+    let block-is : block_clauses c.args.good.request.n c.args.good.request.r c.args.good.request.m c.block_from-block.result ≡ clauses_of c.args.good.request c.loop-b.b = let q = c.args.good.request in
     ap (block_clauses q.n q.r q.m) c.block_from-block.ensures.0 in
-    let counted : c.block_count-count.result ≡ length (block_clauses c.args.q.n c.args.q.r c.args.q.m c.block_from-block.result) = let q = c.args.q in
+    let counted : c.block_count-count.result ≡ length (block_clauses c.args.good.request.n c.args.good.request.r c.args.good.request.m c.block_from-block.result) = let q = c.args.good.request in
     c.block_count-count.ensures.0 ∙ sym (block_length q.n q.r q.m c.block_from-block.result) in
-    omega (arith, (block_within c.args.q c.loop-b.b there).0, c.loop-b.invariant.0.clauses_are, counted, ap length block-is, clause_count_lem c.args.q, c.requires.few)
-
-pub overflow_add-b : goal.overflow_add-b
-overflow_add-b c =
-    let there : c.loop-b.b ≤ 2 ^ c.args.q.n = omega (arith, c.loop-b-test.true, rows_shl c.args.q.n 32 c.requires.good.n_high (omega arith)) in
-    omega (arith, there, rows_high c.args.q.n c.requires.good.n_high)
-
-pub loop-b-smaller : goal.loop-b-smaller
-loop-b-smaller c = omega (arith, c.loop-b-test.true)
+    omega (arith, (block_within c.args.good.request c.loop-b.b there).0, c.loop-b.invariant.0.clauses_are, counted, ap length block-is, clause_count_lem c.args.good.request, c.requires.few)
 
 pub loop-b-preserved : goal.loop-b-preserved
 loop-b-preserved c =
-    let there : c.loop-b.b ≤ 2 ^ c.args.q.n = omega (arith, c.loop-b-test.true, rows_shl c.args.q.n 32 c.requires.good.n_high (omega arith)) in
-    let block-is : block_clauses c.args.q.n c.args.q.r c.args.q.m c.block_from-block.result ≡ clauses_of c.args.q c.loop-b.b = let q = c.args.q in
+    let there : c.loop-b.b ≤ 2 ^ c.args.good.request.n = omega arith in
+    let block-is : block_clauses c.args.good.request.n c.args.good.request.r c.args.good.request.m c.block_from-block.result ≡ clauses_of c.args.good.request c.loop-b.b = let q = c.args.good.request in
     ap (block_clauses q.n q.r q.m) c.block_from-block.ensures.0 in
-    let counted : c.block_count-count.result ≡ length (block_clauses c.args.q.n c.args.q.r c.args.q.m c.block_from-block.result) = let q = c.args.q in
+    let counted : c.block_count-count.result ≡ length (block_clauses c.args.good.request.n c.args.good.request.r c.args.good.request.m c.block_from-block.result) = let q = c.args.good.request in
     c.block_count-count.ensures.0 ∙ sym (block_length q.n q.r q.m c.block_from-block.result) in
-    let next : c.loop-b.before + c.block_variables-before.result ≡ variables_before c.args.q c.loop-b.b = let q = c.args.q in
+    let next : c.loop-b.before + c.block_variables-before.result ≡ variables_before c.args.good.request c.loop-b.b = let q = c.args.good.request in
     let v = c.block_variables-before.ensures.0 ∙ ap (block_variables q.r q.m) c.block_from-block.ensures.0 in
     omega (arith, v, c.loop-b.invariant.1, before_more q c.loop-b.b) in
     let e = block-is in
@@ -97,11 +62,10 @@ loop-b-preserved c =
           c.fill_block-at.auto.pairs
           (c.fill_block-at.ensures.literals ∙ ap (λ (F : Formula). written c.loop-b.literals c.loop-b.at (signs (flatten F))) e)
           (c.fill_block-at.ensures.pairs ∙ ap (λ (F : Formula). written c.loop-b.pairs (2 * c.loop-b.first) (pairs_from c.loop-b.at F)) e),
-      next ∙ ap (variables_before c.args.q) (sym z),
+      next ∙ ap (variables_before c.args.good.request) (sym z),
     )
 
 pub returns : goal.returns
 returns c =
-    let p = rows_shl c.args.q.n 32 c.requires.good.n_high (omega arith) in
-    let p = below_all _ _ _ _ _ _ _ _ c.loop-b.invariant.0 (omega (arith, c.loop-b-test.false, p)) in
+    let p = below_all _ _ _ _ _ _ _ _ c.loop-b.invariant.0 (omega arith) in
     record { literals = p.0; pairs = p.1 }

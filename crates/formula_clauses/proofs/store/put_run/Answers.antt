@@ -27,30 +27,24 @@ run_step old now next at first i to x h e f g n =
     ∙ ap (λ (c : List Literal). written old at (signs c)) (ap (λ (y : Literal). run first i ++ (y ∷ [])) f ∙ sym (run_more first i))
 
 pub loop-i-init : goal.loop-i-init
-loop-i-init c = (search rules, search rules, refl, rw run_none (sym (written_none _ _)))
+loop-i-init c = (search rules, refl, rw run_none (sym (written_none _ _)))
 
 pub overflow_add-first : goal.overflow_add-first
 overflow_add-first c =
-    let l = low_at c.args.first c.args.count c.loop-i.i c.requires.0 c.loop-i-test.true in
+    let l = low_at c.args.first c.args.count c.loop-i.i c.requires.0 (omega arith) in
     omega arith
 
 pub put-to-requires : goal.put-to-requires
 put-to-requires c =
     let i = c.loop-i.i in (
       subst (λ (x : Literal). x.variable ≤ variables_most) (sym c.positive.ensures)
-          (low_at c.args.first c.args.count i c.requires.0 c.loop-i-test.true),
+          (low_at c.args.first c.args.count i c.requires.0 (omega arith)),
       omega arith,
     )
 
 pub loop-i-preserved : goal.loop-i-preserved
 loop-i-preserved c = (
-  omega arith,
   omega (arith, c.put-to.ensures.0),
-  c.put-to.auto.literals ∙ c.loop-i.invariant.2,
-  run_step _ _ _ c.args.at c.args.first c.loop-i.i _ _ (omega arith) c.loop-i.invariant.1 c.positive.ensures c.loop-i.invariant.3 c.put-to.ensures.1,
+  c.put-to.auto.literals ∙ c.loop-i.invariant.1,
+  run_step _ _ _ c.args.at c.args.first c.loop-i.i _ _ (omega arith) c.loop-i.invariant.0 c.positive.ensures c.loop-i.invariant.2 c.put-to.ensures.1,
 )
-
-pub returns : goal.returns
-returns c =
-    let e : c.loop-i.i ≡ c.args.count = omega arith in
-    (omega arith, c.loop-i.invariant.3 ∙ ap (λ (i : ℕ). written c.args.literals.now c.args.at (signs (run c.args.first i))) e)

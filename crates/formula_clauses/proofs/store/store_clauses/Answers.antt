@@ -1,63 +1,58 @@
 -- A refusal leaves the slices; where there is none they have room, and are filled. Assumes nothing.
-use mathlib.Core.Path.{◌≡◌, sym, ap, ◌∙◌}
-use mathlib.Core.List.{List}
-use Prim.Native.Nat.{ℕ, ◌<◌}
-use native.Mathlib.Omega.{arith}
-use lib.IntN.{ℤ}
-use lib.ListN.{length}
-use Rattle.prelude.specs.Blocks.{flatten, pairs_from}
-use Rattle.prelude.specs.Written.{written}
-use Rattle.request.proofs.NumbersLaws.{refusal_good}
-use Rattle.request.specs.declared.Request.{Request}
-use Rattle.formula.specs.Formula.{formula_of}
-use Rattle.formula_clauses.specs.declared.store.Stored.{Stored}
-use Rattle.formula_clauses.specs.Store.{signs, store_refusal, store_sizes, stored_literals, stored_pairs, Roomy}
-use Rattle.formula_clauses.specs.Store.Laws.{none_taken, sizes_none, sizes_refusal, store_refused, store_taken}
+use Rattle.std.proofs.Common.{refl, ap, sym, ◌∙◌, length, arith}
+use Rattle.std.proofs.lemmas.Result.{err_from_is_err_and}
+use Rattle.formula.specs.declared.Sizes.{Sizes}
+use Rattle.formula.specs.Count.{clause_count, literal_count}
+use Rattle.formula_clauses.specs.Store.Laws.{none_taken, request_refused, room_refused, room_taken, store_refused, store_taken}
 use Rattle.formula_clauses.proofs.store.store_clauses.Goals as goal
 
-module _ (q : Request) (literals : List ℤ) (pairs : List ℕ) (size : Stored) (size_is : size ≡ store_sizes q (length literals) (length pairs)) where
-  -- what is ensured of an answer and of the slices
-  abbrev Answer : ℕ → List ℤ → List ℕ → Type 0
-  Answer x l p =
-      (x ≡ store_refusal q (length literals) (length pairs)) × ((l ≡ stored_literals q (length pairs) literals) × (p ≡ stored_pairs q (length literals) pairs))
+pub returns-in_err-good : goal.returns-in_err-good
+returns-in_err-good c =
+    let q = c.args.q in
+    let literals = c.args.literals.now in
+    let pairs = c.args.pairs.now in
+    let p = err_from_is_err_and c.from_residual.result c.from_residual.ensures.1 in
+    let r = request_refused q (literal_count q) (clause_count q) (length literals) (length pairs) tt _ c.in_err-good.ensures.number in
+    let w = store_refused q literals pairs _ refl r.1 in
+    record { answer = rw (p.1, p.2) r.0; literals = w.0; pairs = w.1 }
 
-  refusal_is : size.refusal ≡ store_refusal q (length literals) (length pairs)
-  refusal_is = ap (λ (x : Stored). x.refusal) size_is ∙ sizes_refusal q (length literals) (length pairs)
-
-  is-refused : (size.refusal ≡ 0 → ⊥) → Answer size.refusal literals pairs
-  is-refused d = (refusal_is, store_refused q literals pairs size.refusal (sym refusal_is) d)
-
-  is-0 : (l : List ℤ) (p : List ℕ) → size.refusal ≡ 0
-      → l ≡ written literals 0 (signs (flatten (formula_of q))) → p ≡ written pairs 0 (pairs_from 0 (formula_of q)) → Answer 0 l p
-  is-0 l p e f g =
-      let w = store_taken q literals pairs (sym refusal_is ∙ e) in
-      (sym e ∙ refusal_is, (f ∙ sym w.0, g ∙ sym w.1))
-
-  roomy : size.refusal ≡ 0 → size.literals < 4294967296 → size.clauses < 4294967296 → Roomy q (length literals) (length pairs)
-  roomy e s k =
-      let z = sym refusal_is ∙ e in
-      let t = none_taken _ _ _ _ _ z in
-      let f = size_is ∙ sizes_none q (length literals) (length pairs) z in
-      let n = ap (λ (x : Stored). x.literals) f in
-      let m = ap (λ (x : Stored). x.clauses) f in
-      record {
-        good = refusal_good q t.request;
-        small = omega arith;
-        few = omega arith;
-        literals_long = t.literals_long;
-        pairs_long = t.pairs_long;
-      }
-
-pub returns-then-size-ne0 : goal.returns-then-size-ne0
-returns-then-size-ne0 c =
-    let a = is-refused c.args.q c.args.literals.now c.args.pairs.now _ c.store_sizes-size.ensures c.if-size-ne0.true in
-    record { answer = a.0; literals = a.1.0; pairs = a.1.1 }
+pub returns-in_err-room : goal.returns-in_err-room
+returns-in_err-room c =
+    let q = c.args.q in
+    let literals = c.args.literals.now in
+    let pairs = c.args.pairs.now in
+    let p = err_from_is_err_and c.from_residual-in_err-room.result c.from_residual-in_err-room.ensures.1 in
+    let h = rw (c.sizes-size.ensures, c.in_ok-good.ensures.request) at c.in_err-room.ensures in
+    let r = room_refused q (literal_count q) (clause_count q) (length literals) (length pairs) tt _ c.in_ok-good.ensures.number h in
+    let w = store_refused q literals pairs _ refl r.1 in
+    record { answer = rw (p.1, p.2) r.0; literals = w.0; pairs = w.1 }
 
 pub fill-requires : goal.fill-requires
 fill-requires c =
-    roomy c.args.q c.args.literals.now c.args.pairs.now _ c.store_sizes-size.ensures c.if-size-ne0.false (omega (arith, c.struct_known-1.given)) (omega (arith, c.struct_known-1.given))
+    let q = c.in_ok-good.good.request in
+    let literals = c.args.literals.now in
+    let pairs = c.args.pairs.now in
+    let z = rw (← c.in_ok-good.ensures.request) at c.in_ok-good.ensures.number in
+    let h = rw c.sizes-size.ensures at c.in_ok-room.ensures in
+    let t = none_taken _ _ _ _ _ (room_taken q (literal_count q) (clause_count q) (length literals) (length pairs) (tt {0}) z h).0 in
+    let s = ap (λ (x : Sizes). x.literals) c.sizes-size.ensures in
+    let k = ap (λ (x : Sizes). x.clauses) c.sizes-size.ensures in
+    record {
+      good = c.in_ok-good.good.good;
+      small = omega (arith, c.sizes-size.type_inv);
+      few = omega (arith, c.sizes-size.type_inv);
+      literals_long = t.literals_long;
+      pairs_long = t.pairs_long;
+    }
 
 pub returns : goal.returns
 returns c =
-    let a = is-0 c.args.q c.args.literals.now c.args.pairs.now _ c.store_sizes-size.ensures _ _ c.if-size-ne0.false c.fill.ensures.literals c.fill.ensures.pairs in
-    record { answer = a.0; literals = a.1.0; pairs = a.1.1 }
+    let q = c.args.q in
+    let literals = c.args.literals.now in
+    let pairs = c.args.pairs.now in
+    let h = rw (c.sizes-size.ensures, c.in_ok-good.ensures.request) at c.in_ok-room.ensures in
+    let r = room_taken q (literal_count q) (clause_count q) (length literals) (length pairs) tt c.in_ok-good.ensures.number h in
+    let w = store_taken q literals pairs r.0 in
+    let f = rw c.in_ok-good.ensures.request at c.fill.ensures.literals in
+    let g = rw c.in_ok-good.ensures.request at c.fill.ensures.pairs in
+    record { answer = r.1; literals = f ∙ sym w.0; pairs = g ∙ sym w.1 }

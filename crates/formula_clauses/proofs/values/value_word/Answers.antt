@@ -13,28 +13,10 @@ small n x h l =
     let p : 2 ^ n ≤ 256 = pow_mono {i = n} {j = 8} h in
     (p, mul-le-mul {n₁ = x} {m₁ = 2 ^ n} {n₂ = 256} {m₂ = 256} (omega arith) p)
 
-pub overflow_sub-ones : goal.overflow_sub-ones
-overflow_sub-ones c = omega (arith, small c.args.n 0 c.requires.0 (omega arith))
-
-pub overflow_sub-result : goal.overflow_sub-result
-overflow_sub-result c = omega (arith, small c.args.n 0 c.requires.0 (omega arith))
-
-pub overflow_add-result : goal.overflow_add-result
-overflow_add-result c = omega (arith, small c.args.n c.args.k c.requires.0 (omega arith))
-
 pub returns-then-value : goal.returns-then-value
 unfolding value_word
 returns-then-value c =
     rw c.if-value.true (omega (arith, small c.args.n c.args.k c.requires.0 (omega arith)))
-
-pub overflow_sub-result-2 : goal.overflow_sub-result-2
-overflow_sub-result-2 c = omega (arith, small c.args.n 0 c.requires.0 (omega arith))
-
-pub overflow_add-result-2 : goal.overflow_add-result-2
-overflow_add-result-2 c =
-    let n = c.args.n in
-    rw (one_shifted n 32 (omega arith))
-    (omega (arith, small n (2 ^ n - 1 - c.args.k) c.requires.0 (omega arith)))
 
 pub returns : goal.returns
 unfolding value_word

@@ -9,38 +9,14 @@ use Rattle.lengths.specs.Length.Laws.{joined_count}
 use Rattle.lengths.specs.Length.OffRow.{net_sides_size}
 use Rattle.lengths.proofs.parts.net_sides_length.Goals as goal
 
-pub run_length-joined-requires : goal.run_length-joined-requires
-run_length-joined-requires c =
-    let count : (c.network_variables-pairs.result ≡ P (terminals c.args.r)) × (c.network_variables-pairs.result ≤ 736) = joined_count c.args.r c.requires.0 c.network_variables-pairs.ensures.0 in
-    omega (arith, count.1)
-
-pub overflow_mul-result-4 : goal.overflow_mul-result-4
-overflow_mul-result-4 c =
-    let most : (2 * c.args.r + 1) * c.run_length-sides.result ≤ 31 * 192 = let r = c.args.r in
-    mul-le-mul {n₁ = 2 * r + 1} {m₁ = c.run_length-sides.result} {n₂ = 31} {m₂ = 192} (omega arith) (omega arith) in
-    omega (arith, most)
-
-pub overflow_mul-result-5 : goal.overflow_mul-result-5
-overflow_mul-result-5 c =
-    let most : (2 * c.args.r + 1) * c.run_length-sides.result ≤ 31 * 192 = let r = c.args.r in
-    mul-le-mul {n₁ = 2 * r + 1} {m₁ = c.run_length-sides.result} {n₂ = 31} {m₂ = 192} (omega arith) (omega arith) in
-    omega (arith, most)
-
-pub overflow_add-result-3 : goal.overflow_add-result-3
-overflow_add-result-3 c =
-    let count : (c.network_variables-pairs.result ≡ P (terminals c.args.r)) × (c.network_variables-pairs.result ≤ 736) = joined_count c.args.r c.requires.0 c.network_variables-pairs.ensures.0 in
-    let most : (2 * c.args.r + 1) * c.run_length-sides.result ≤ 31 * 192 = let r = c.args.r in
-    mul-le-mul {n₁ = 2 * r + 1} {m₁ = c.run_length-sides.result} {n₂ = 31} {m₂ = 192} (omega arith) (omega arith) in
-    omega (arith, most, count.1)
-
 pub returns : goal.returns
 returns c =
-    let count : (c.network_variables-pairs.result ≡ P (terminals c.args.r)) × (c.network_variables-pairs.result ≤ 736) = joined_count c.args.r c.requires.0 c.network_variables-pairs.ensures.0 in
-    let most : (2 * c.args.r + 1) * c.run_length-sides.result ≤ 31 * 192 = let r = c.args.r in
-    mul-le-mul {n₁ = 2 * r + 1} {m₁ = c.run_length-sides.result} {n₂ = 31} {m₂ = 192} (omega arith) (omega arith) in
+    let count : (c.network_variables-pairs.result ≡ P (terminals c.args.row.r)) × (c.network_variables-pairs.result ≤ 736) = joined_count c.args.row.r c.args.row.fits.r_high c.network_variables-pairs.ensures.0 in
+    let most : (2 * c.args.row.r + 1) * c.run_length-sides.result ≤ 31 * 192 = let r = c.args.row.r in
+    mul-le-mul {n₁ = 2 * r + 1} {m₁ = c.run_length-sides.result} {n₂ = 31} {m₂ = 192} (omega (arith, c.args.row.fits.r_high)) (omega (arith, c.args.row.fits.r_high)) in
     let a = c.args in
     let p = count in
     let j = c.run_length-joined.ensures.0 ∙ ap (run_length 1) p.0 in
-    let s = ap (λ (x : ℕ). (2 * a.r + 1) * x) c.run_length-sides.ensures.0 in
-    let e = net_sides_size a.r a.before in
+    let s = ap (λ (x : ℕ). (2 * a.row.r + 1) * x) c.run_length-sides.ensures.0 in
+    let e = net_sides_size a.row.r a.row.before in
     (omega (arith, p.0, j, s, e), omega (arith, most, p.1))

@@ -13,8 +13,8 @@ returns c =
     let x = c.args.x in
     let e = below_length x c.requires in
     let m = sum_most x 6 literal_length (λ i l. literal_most i (omega arith)) in
-    let a = c.from_low.ensures in
-    let b = c.from_low-2.ensures in
-    let d = c.from_low-3.ensures in
-    let f : 2 * x + c.from_low.result + c.from_low-2.result + c.from_low-3.result + c.from_low-4.result ≡ sum x literal_length = rw (a, b, d, c.from_low-4.ensures) e in
+    let a = c.saturating_sub.ensures in
+    let b = c.saturating_sub-2.ensures in
+    let d = c.saturating_sub-3.ensures in
+    let f : 2 * x + c.saturating_sub.result + c.saturating_sub-2.result + c.saturating_sub-3.result + c.saturating_sub-4.result ≡ sum x literal_length = rw (a, b, d, c.saturating_sub-4.ensures) e in
     (f, omega (arith, f, m))

@@ -1,11 +1,8 @@
 -- What was read so far is the number by its digits that are left; a byte other than a space is one of them. Assumes nothing.
-use mathlib.Core.Path.{◌≡◌}
-use Prim.Native.Nat.{◌+◌, ◌-◌, ◌≤◌, ◌<◌}
-use mathlib.Core.List.{List}
-use Prim.Native.Nat.{ℕ}
-use lib.ListN.{length}
+use Rattle.std.proofs.Common.{◌≡◌, ℕ, ◌+◌, ◌-◌, ◌≤◌, ◌<◌, List, length}
 use Rattle.numeral.specs.Number.{number_at, digits_at}
 use Rattle.numeral.specs.Number.Laws.{tens}
+use Rattle.numeral.specs.Number.Words.{sign_number}
 use Rattle.lrat_check.proofs.clause.known_digits.Given as goal
 
 -- the number by what is read, and the places
@@ -16,8 +13,8 @@ pub record Reading (t : List ℕ) (at m x p : ℕ) : Type 0 where
   pub nine : p ≤ at + 9
   pub small : x < tens (p - at)
 
-abbrev pub invariant-loop-p : goal.invariant-loop-p
-invariant-loop-p l = Reading l.text l.at l.minus l.value l.p
+abbrev pub invariant-loop-next : goal.invariant-loop-next
+invariant-loop-next l = Reading l.text l.at (sign_number l.minus) l.value l.next
 
-abbrev pub decreases-loop-p : goal.decreases-loop-p
-decreases-loop-p l = length l.text - l.p
+abbrev pub decreases-loop-next : goal.decreases-loop-next
+decreases-loop-next l = length l.text - l.next

@@ -1,34 +1,28 @@
 -- By its minus. Assumes nothing.
-use mathlib.Core.Path.{sym, ◌∙◌}
-use native.Mathlib.Omega.{arith}
+use Rattle.std.proofs.Common.{sym, subst}
+use Rattle.numeral.specs.Number.{Read}
 use Rattle.numeral.specs.Number.Laws.{literal_minus, literal_plain}
 use Rattle.numeral.specs.Number.Places.{known_inside, known_minus, known_plain}
+use Rattle.numeral.specs.Number.Words.{Is}
 use Rattle.lrat_check.proofs.clause.known_literal.Goals as goal
 
 pub bounds-text-at : goal.bounds-text-at
 bounds-text-at c = known_inside _ _ c.requires.there c.requires.spaced
 
-pub overflow_add-at : goal.overflow_add-at
-overflow_add-at c = omega (arith, known_inside _ _ c.requires.there c.requires.spaced, c.well_formed)
+pub known_digits-requires-clause-there : goal.known_digits-requires-clause-there
+known_digits-requires-clause-there c = (known_minus _ _ c.requires.there c.requires.spaced c.if-text-at-eq45.true).0
 
-pub known_digits-requires : goal.known_digits-requires
-known_digits-requires c = let k = known_minus _ _ c.requires.there c.requires.spaced c.if-text-at-eq45.true in
-    record {
-      there = k.0;
-      spaced = k.1;
-      sign = omega arith;
-    }
+pub known_digits-requires-clause-spaced : goal.known_digits-requires-clause-spaced
+known_digits-requires-clause-spaced c = (known_minus _ _ c.requires.there c.requires.spaced c.if-text-at-eq45.true).1
 
 pub returns-then-text-at-eq45 : goal.returns-then-text-at-eq45
-returns-then-text-at-eq45 c = c.known_digits.ensures ∙ sym (literal_minus _ _ c.if-text-at-eq45.true)
+returns-then-text-at-eq45 c = subst (λ (r : Read). Is r c.known_digits.result) (sym (literal_minus _ _ c.if-text-at-eq45.true)) c.known_digits.ensures
 
-pub known_digits-requires-2 : goal.known_digits-requires-2
-known_digits-requires-2 c = let k = known_plain _ _ c.requires.there c.requires.spaced c.if-text-at-eq45.false in
-    record {
-      there = k.0;
-      spaced = k.1;
-      sign = omega arith;
-    }
+pub known_digits-requires-2-clause-there : goal.known_digits-requires-2-clause-there
+known_digits-requires-2-clause-there c = (known_plain _ _ c.requires.there c.requires.spaced c.if-text-at-eq45.false).0
+
+pub known_digits-requires-2-clause-spaced : goal.known_digits-requires-2-clause-spaced
+known_digits-requires-2-clause-spaced c = (known_plain _ _ c.requires.there c.requires.spaced c.if-text-at-eq45.false).1
 
 pub returns : goal.returns
-returns c = c.known_digits-2.ensures ∙ sym (literal_plain _ _ c.if-text-at-eq45.false)
+returns c = subst (λ (r : Read). Is r c.known_digits-2.result) (sym (literal_plain _ _ c.if-text-at-eq45.false)) c.known_digits-2.ensures

@@ -1,83 +1,71 @@
--- The invariant: deleting all ids from the slice at entry is deleting those that are left from the slice as it is. Assumes nothing.
-use mathlib.Core.Path.{◌≡◌, sym, ◌∙◌}
-use mathlib.Core.List.{◌∷◌}
-use mathlib.Core.Bool.{true}
-use Prim.Native.Nat.{◌+◌, ◌-◌, ◌<◌}
-use native.Mathlib.Omega.{arith}
-use Rattle.numeral.specs.Number.Places.{Ends}
-use Rattle.lrat.specs.Words.{plain_at, ids_at}
+-- The invariant: deleting all ids from the slice at entry is deleting those that are left from the slice as it is, whose clauses lie
+-- in the text. Assumes nothing.
+use Rattle.std.proofs.Common.{false, refl, sym, ◌∙◌, arith}
+use Rattle.numeral.specs.Number.Words.{none_read, number_word}
+use Rattle.lrat.specs.Words.{plain_at}
 use Rattle.lrat.specs.Words.Laws.{plain_reads, word_ends, ids_none, ids_more}
-use Rattle.lrat.specs.State.{stands_in}
 use Rattle.lrat.proofs.StateLaws.{deleting_start, delete_end, delete_gone, delete_original, delete_added, stands_inside}
+use Rattle.lrat.proofs.StateAdded.{additions_added}
+use Rattle.lrat_check.proofs.WordLaws.{deletes, ids_wordless}
 use Rattle.lrat_check.proofs.lines.delete.Goals as goal
 
-pub loop-w-init : goal.loop-w-init
-loop-w-init c = (c.requires.0, deleting_start)
-
-pub overflow_add-p : goal.overflow_add-p
-overflow_add-p c = omega arith
-
-pub shape_of-added-then-x-eq0 : goal.shape_of-added-then-x-eq0
-shape_of-added-then-x-eq0 c = c.loop-w.invariant.1.long
+pub loop-id-init : goal.loop-id-init
+loop-id-init c = (c.requires.0, deleting_start, c.requires.1)
 
 pub returns-then-x-eq0 : goal.returns-then-x-eq0
-returns-then-x-eq0 c = delete_end c.loop-w.invariant.1 (ids_none _ _ c.number-w.result c.number-w.ensures c.if-x-eq0.true)
+returns-then-x-eq0 c =
+    let w = number_word _ _ false _ c.in-Some.ensures in
+    deletes _ 0 _ (delete_end c.loop-id.invariant.1 (ids_none _ _ _ (sym w.read) c.if-x-eq0.true)) refl
 
-pub stands-requires : goal.stands-requires
-stands-requires c = (omega (arith, c.if-x-eq0.false), omega (arith, c.loop-w.invariant.1.long, c.requires.1))
+pub returns-then-not-stands : goal.returns-then-not-stands
+returns-then-not-stands c =
+    let w = number_word _ _ false _ c.in-Some.ensures in
+    deletes _ 19 _ (delete_gone c.loop-id.invariant.1 _ _ (ids_more _ _ _ (sym w.read) c.if-x-eq0.false) (sym c.if-not-stands.true ∙ c.stands.ensures)) refl
 
 pub overflow_mul-added : goal.overflow_mul-added
 overflow_mul-added c =
-    let there : true ≡ stands_in c.args.clauses c.args.a c.loop-w.added c.number-w.result.value = sym c.if-stands.true ∙ c.stands.ensures in
-    let inside : c.number-w.result.value - c.args.clauses - 1 < c.args.a = stands_inside _ _ _ _ there c.if-clauses-x.true in
-    omega (arith, inside, c.well_formed, c.requires.1)
+    omega (arith, stands_inside _ _ _ _ (sym c.if-not-stands.false ∙ c.stands.ensures) c.if-store-x.true, c.loop-id.invariant.2.long, c.well_formed, c.loop-id.auto.added)
 
 pub overflow_add-added : goal.overflow_add-added
 overflow_add-added c =
-    let there : true ≡ stands_in c.args.clauses c.args.a c.loop-w.added c.number-w.result.value = sym c.if-stands.true ∙ c.stands.ensures in
-    let inside : c.number-w.result.value - c.args.clauses - 1 < c.args.a = stands_inside _ _ _ _ there c.if-clauses-x.true in
-    omega (arith, inside, c.well_formed, c.requires.1)
+    omega (arith, stands_inside _ _ _ _ (sym c.if-not-stands.false ∙ c.stands.ensures) c.if-store-x.true, c.loop-id.invariant.2.long, c.well_formed, c.loop-id.auto.added)
 
 pub offset_bounds-added-x : goal.offset_bounds-added-x
 offset_bounds-added-x c =
-    let there : true ≡ stands_in c.args.clauses c.args.a c.loop-w.added c.number-w.result.value = sym c.if-stands.true ∙ c.stands.ensures in
-    let inside : c.number-w.result.value - c.args.clauses - 1 < c.args.a = stands_inside _ _ _ _ there c.if-clauses-x.true in
-    omega (arith, inside, c.well_formed, c.requires.1)
+    omega (arith, stands_inside _ _ _ _ (sym c.if-not-stands.false ∙ c.stands.ensures) c.if-store-x.true, c.loop-id.invariant.2.long, c.well_formed, c.loop-id.auto.added)
 
 pub bounds-added-x : goal.bounds-added-x
 bounds-added-x c =
-    let there : true ≡ stands_in c.args.clauses c.args.a c.loop-w.added c.number-w.result.value = sym c.if-stands.true ∙ c.stands.ensures in
-    let inside : c.number-w.result.value - c.args.clauses - 1 < c.args.a = stands_inside _ _ _ _ there c.if-clauses-x.true in
-    omega (arith, inside, c.requires.1, c.loop-w.invariant.1.long)
+    omega (arith, stands_inside _ _ _ _ (sym c.if-not-stands.false ∙ c.stands.ensures) c.if-store-x.true, c.loop-id.invariant.2.long)
 
-pub loop-w-smaller-then-clauses-x : goal.loop-w-smaller-then-clauses-x
-loop-w-smaller-then-clauses-x c =
-    let past : Ends c.args.text.now (c.loop-w.p + 1) c.number-w.result = word_ends plain_at plain_reads _ _ c.number-w.result c.number-w.ensures c.if-x-eq0.false in
-    let r = past in omega (arith, r.low, r.high)
+pub loop-id-smaller-then-store-x : goal.loop-id-smaller-then-store-x
+loop-id-smaller-then-store-x c =
+    let w = number_word _ _ false _ c.in-Some.ensures in
+    let e = word_ends plain_at plain_reads _ _ _ (sym w.read) c.if-x-eq0.false in omega (arith, e.low, e.high)
 
-pub loop-w-preserved-then-clauses-x : goal.loop-w-preserved-then-clauses-x
-loop-w-preserved-then-clauses-x c =
-    let more : ids_at c.args.text.now c.loop-w.p ≡ c.number-w.result.value ∷ ids_at c.args.text.now c.number-w.result.next = ids_more _ _ c.number-w.result c.number-w.ensures c.if-x-eq0.false in
-    let past : Ends c.args.text.now (c.loop-w.p + 1) c.number-w.result = word_ends plain_at plain_reads _ _ c.number-w.result c.number-w.ensures c.if-x-eq0.false in
-    let there : true ≡ stands_in c.args.clauses c.args.a c.loop-w.added c.number-w.result.value = sym c.if-stands.true ∙ c.stands.ensures in
-    (past.high, delete_added c.loop-w.invariant.1 _ _ more there c.if-clauses-x.true)
+pub loop-id-preserved-then-store-x : goal.loop-id-preserved-then-store-x
+loop-id-preserved-then-store-x c =
+    let w = number_word _ _ false _ c.in-Some.ensures in
+    let e = word_ends plain_at plain_reads _ _ _ (sym w.read) c.if-x-eq0.false in
+    let there = sym c.if-not-stands.false ∙ c.stands.ensures in
+    let v = c.loop-id.invariant in (
+      e.high,
+      delete_added v.1 _ _ (ids_more _ _ _ (sym w.read) c.if-x-eq0.false) there c.if-store-x.true,
+      additions_added _ _ _ _ _ _ v.2 there c.if-store-x.true,
+    )
 
-pub loop-w-smaller : goal.loop-w-smaller
-loop-w-smaller c =
-    let past : Ends c.args.text.now (c.loop-w.p + 1) c.number-w.result = word_ends plain_at plain_reads _ _ c.number-w.result c.number-w.ensures c.if-x-eq0.false in
-    let r = past in omega (arith, r.low, r.high)
+pub loop-id-smaller : goal.loop-id-smaller
+loop-id-smaller c =
+    let w = number_word _ _ false _ c.in-Some.ensures in
+    let e = word_ends plain_at plain_reads _ _ _ (sym w.read) c.if-x-eq0.false in omega (arith, e.low, e.high)
 
-pub loop-w-preserved : goal.loop-w-preserved
-loop-w-preserved c =
-    let more : ids_at c.args.text.now c.loop-w.p ≡ c.number-w.result.value ∷ ids_at c.args.text.now c.number-w.result.next = ids_more _ _ c.number-w.result c.number-w.ensures c.if-x-eq0.false in
-    let past : Ends c.args.text.now (c.loop-w.p + 1) c.number-w.result = word_ends plain_at plain_reads _ _ c.number-w.result c.number-w.ensures c.if-x-eq0.false in
-    let there : true ≡ stands_in c.args.clauses c.args.a c.loop-w.added c.number-w.result.value = sym c.if-stands.true ∙ c.stands.ensures in
-    (past.high, delete_original c.loop-w.invariant.1 _ _ more there c.if-clauses-x.false)
+pub loop-id-preserved : goal.loop-id-preserved
+loop-id-preserved c =
+    let w = number_word _ _ false _ c.in-Some.ensures in
+    let e = word_ends plain_at plain_reads _ _ _ (sym w.read) c.if-x-eq0.false in
+    let there = sym c.if-not-stands.false ∙ c.stands.ensures in
+    let v = c.loop-id.invariant in
+    (e.high, delete_original v.1 _ _ (ids_more _ _ _ (sym w.read) c.if-x-eq0.false) there c.if-store-x.false, v.2)
 
-pub shape_of-added-else-stands : goal.shape_of-added-else-stands
-shape_of-added-else-stands c = c.loop-w.invariant.1.long
-
-pub returns-else-stands : goal.returns-else-stands
-returns-else-stands c =
-    let more : ids_at c.args.text.now c.loop-w.p ≡ c.number-w.result.value ∷ ids_at c.args.text.now c.number-w.result.next = ids_more _ _ c.number-w.result c.number-w.ensures c.if-x-eq0.false in
-    delete_gone c.loop-w.invariant.1 _ _ more (sym c.if-stands.false ∙ c.stands.ensures)
+pub returns : goal.returns
+returns c = deletes _ 0 _ (delete_end c.loop-id.invariant.1 (ids_wordless _ _ (none_read _ c.in_default.ensures))) refl

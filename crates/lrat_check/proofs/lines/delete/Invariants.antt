@@ -1,11 +1,13 @@
--- The invariant: deleting all ids from the slice at entry is deleting those that are left from the slice as it is. Assumes nothing.
-use Prim.Native.Nat.{◌-◌, ◌≤◌}
-use lib.ListN.{length}
+-- The invariant: deleting all ids from the slice at entry is deleting those that are left from the slice as it is, whose clauses lie
+-- in the text. Assumes nothing.
+use Rattle.std.proofs.Common.{◌+◌, ◌-◌, ◌≤◌, length}
+use Rattle.lrat.specs.State.{AddedInText}
 use Rattle.lrat.proofs.StateLaws.{Deleting}
 use Rattle.lrat_check.proofs.lines.delete.Given as goal
 
-abbrev pub invariant-loop-w : goal.invariant-loop-w
-invariant-loop-w l = (l.p ≤ length l.text) × Deleting l.text l.clauses l.a l.initial.added l.at l.added l.p
+abbrev pub invariant-loop-id : goal.invariant-loop-id
+invariant-loop-id l =
+    (l.p ≤ length l.store.text.now) × Deleting l.store.text.now l.store.count l.a l.fn.added l.at l.added l.p × AddedInText l.store.text.now l.a l.added (l.store.variables + 1)
 
-abbrev pub decreases-loop-w : goal.decreases-loop-w
-decreases-loop-w l = length l.text - l.p
+abbrev pub decreases-loop-id : goal.decreases-loop-id
+decreases-loop-id l = length l.store.text.now - l.p

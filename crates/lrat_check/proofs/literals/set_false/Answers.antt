@@ -1,76 +1,58 @@
--- The invariant is Telling: the form of the whole run, and what is said of all literals, by those that are left. Assumes nothing.
-use mathlib.Core.Path.{◌≡◌, refl, sym, ◌∙◌}
-use Prim.Native.Nat.{◌+◌}
-use native.Mathlib.Omega.{arith}
-use borrow.Author.Rules.{rules}
-use Rattle.numeral.specs.Number.{byte_at, literal_at}
-use Rattle.numeral.specs.Number.Places.{Ends, byte_in}
-use Rattle.lrat.specs.Words.Laws.{literal_reads, word_there}
+-- The invariant: the form of the whole run, and what is said of all literals, by those that are left. Assumes nothing.
+use Rattle.std.proofs.Common.{◌≡◌, refl, sym, ◌∙◌, arith, true, false, lt-ltb, leb-true, leb-false}
+use Rattle.numeral.specs.Number.{byte_at}
+use Rattle.numeral.specs.Number.Words.{sign_low, none_read, literal_word}
 use Rattle.lrat.specs.Bytes.Laws.{reading_start, literals_unspaced, literals_wordless, literals_end, reading_high, reading_twice, reading_more}
+use Rattle.lrat.proofs.BytesScan.{byte_minus}
+use Rattle.lrat_check.proofs.ClauseLaws.{word_past}
 use Rattle.lrat_check.proofs.literals.set_false.Goals as goal
+use Rattle.lrat_check.proofs.literals.set_false.Goals.{then-variables-literal, else-variables-literal}
+
+apart : true ≡ false → ⊥
+apart e = cc
 
 pub loop-at-init : goal.loop-at-init
 loop-at-init c = reading_start _ _ _ _ _ c.requires.values_len.0 c.requires.before_line
 
-pub shape_of-values-then-byte-ne32 : goal.shape_of-values-then-byte-ne32
-shape_of-values-then-byte-ne32 c = c.loop-at.invariant.long ∙ sym c.requires.values_len.0
+pub returns-then-byte-ne32-clause-read : goal.returns-then-byte-ne32-clause-read
+returns-then-byte-ne32-clause-read c = literals_unspaced c.loop-at.invariant (λ e. c.if-byte-ne32.true (c.byte.ensures ∙ e)) _ refl refl
 
-pub returns-then-byte-ne32 : goal.returns-then-byte-ne32
-returns-then-byte-ne32 c = literals_unspaced c.loop-at.invariant (λ e. c.if-byte-ne32.true (c.byte.ensures ∙ e)) _ refl refl
+pub returns-in_err-literal-clause-read : goal.returns-in_err-literal-clause-read
+returns-in_err-literal-clause-read c =
+    rw c.from_residual.ensures
+    (literals_wordless c.loop-at.invariant _ refl (sym c.byte.ensures ∙ c.if-byte-ne32.false) (none_read _ c.in_err-literal.ensures) _ refl refl)
 
-pub overflow_add-p : goal.overflow_add-p
-overflow_add-p c =
-    let space : byte_at c.args.text.now c.loop-at.p ≡ 32 = sym c.byte.ensures ∙ c.if-byte-ne32.false in
-    let i = byte_in c.args.text.now c.loop-at.p (λ e. omega (arith, space)) in omega (arith, i, c.well_formed)
-
-pub shape_of-values-then-w-eq0 : goal.shape_of-values-then-w-eq0
-shape_of-values-then-w-eq0 c = c.loop-at.invariant.long ∙ sym c.requires.values_len.0
-
-pub returns-then-w-eq0 : goal.returns-then-w-eq0
-returns-then-w-eq0 c =
-    let space : byte_at c.args.text.now c.loop-at.p ≡ 32 = sym c.byte.ensures ∙ c.if-byte-ne32.false in
-    literals_wordless c.loop-at.invariant _ c.literal-w.ensures space c.if-w-eq0.true _ refl refl
-
-pub shape_of-values-then-v-eq0 : goal.shape_of-values-then-v-eq0
-shape_of-values-then-v-eq0 c = c.loop-at.invariant.long ∙ sym c.requires.values_len.0
-
-pub returns-then-v-eq0 : goal.returns-then-v-eq0
-returns-then-v-eq0 c =
-    let space : byte_at c.args.text.now c.loop-at.p ≡ 32 = sym c.byte.ensures ∙ c.if-byte-ne32.false in
-    literals_end c.loop-at.invariant _ c.literal-w.ensures space c.if-w-eq0.false c.if-v-eq0.true _ refl refl refl
-
-pub overflow_add-values : goal.overflow_add-values
-overflow_add-values c =
-    let past : Ends c.args.text.now (c.loop-at.p + 1) c.literal-w.result = word_there literal_at literal_reads _ _ _ c.literal-w.ensures c.if-w-eq0.false in
-    let r = past in omega (arith, r.sign)
-
-pub loop-at-smaller-then-variables-v : goal.loop-at-smaller-then-variables-v
-loop-at-smaller-then-variables-v c =
-    let past : Ends c.args.text.now (c.loop-at.p + 1) c.literal-w.result = word_there literal_at literal_reads _ _ _ c.literal-w.ensures c.if-w-eq0.false in
-    let r = past in omega (arith, r.low, r.high)
-
-pub loop-at-preserved-then-variables-v : goal.loop-at-preserved-then-variables-v
-loop-at-preserved-then-variables-v c =
-    let space : byte_at c.args.text.now c.loop-at.p ≡ 32 = sym c.byte.ensures ∙ c.if-byte-ne32.false in
-    reading_high c.loop-at.invariant _ c.literal-w.ensures space c.if-w-eq0.false c.if-v-eq0.false c.if-variables-v.true
+pub returns-then-literal-eq0-clause-read : goal.returns-then-literal-eq0-clause-read
+returns-then-literal-eq0-clause-read c =
+    let w = literal_word _ _ _ c.in_ok-literal.ensures in
+    literals_end c.loop-at.invariant _ (sym w.read) (sym c.byte.ensures ∙ c.if-byte-ne32.false) w.there c.if-literal-eq0.true _ refl refl refl
 
 pub loop-at-smaller-then-stamp-values : goal.loop-at-smaller-then-stamp-values
 loop-at-smaller-then-stamp-values c =
-    let past : Ends c.args.text.now (c.loop-at.p + 1) c.literal-w.result = word_there literal_at literal_reads _ _ _ c.literal-w.ensures c.if-w-eq0.false in
-    let r = past in omega (arith, r.low, r.high)
+    let p = word_past _ _ _ (literal_word _ _ _ c.in_ok-literal.ensures) in omega (arith, p.0, p.1)
 
 pub loop-at-preserved-then-stamp-values : goal.loop-at-preserved-then-stamp-values
 loop-at-preserved-then-stamp-values c =
-    let space : byte_at c.args.text.now c.loop-at.p ≡ 32 = sym c.byte.ensures ∙ c.if-byte-ne32.false in
-    reading_twice c.loop-at.invariant _ c.literal-w.ensures space c.if-w-eq0.false c.if-v-eq0.false c.if-stamp-values.true
+    let w = literal_word _ _ _ c.in_ok-literal.ensures in
+    let space : byte_at c.args.text.now c.loop-at.end ≡ 32 = sym c.byte.ensures ∙ c.if-byte-ne32.false in
+    elim c.if-variables-literal.branch [
+      | then-variables-literal b ↦ reading_high c.loop-at.invariant _ (sym w.read) space w.there c.if-literal-eq0.false b.if-variables-literal.true
+      | else-variables-literal b ↦ reading_twice c.loop-at.invariant _ (sym w.read) space w.there c.if-literal-eq0.false (leb-true _ _ (sym b.value-is ∙ c.if-stamp-values.true))
+    ]
 
 pub loop-at-smaller : goal.loop-at-smaller
 loop-at-smaller c =
-    let past : Ends c.args.text.now (c.loop-at.p + 1) c.literal-w.result = word_there literal_at literal_reads _ _ _ c.literal-w.ensures c.if-w-eq0.false in
-    let r = past in omega (arith, r.low, r.high)
+    let p = word_past _ _ _ (literal_word _ _ _ c.in_ok-literal.ensures) in omega (arith, p.0, p.1)
 
 pub loop-at-preserved : goal.loop-at-preserved
 loop-at-preserved c =
-    let space : byte_at c.args.text.now c.loop-at.p ≡ 32 = sym c.byte.ensures ∙ c.if-byte-ne32.false in
-    let past : Ends c.args.text.now (c.loop-at.p + 1) c.literal-w.result = word_there literal_at literal_reads _ _ _ c.literal-w.ensures c.if-w-eq0.false in
-    reading_more c.loop-at.invariant _ c.literal-w.ensures space c.if-w-eq0.false c.if-v-eq0.false (search rules) (search rules) past.sign
+    let w = literal_word _ _ _ c.in_ok-literal.ensures in
+    let space : byte_at c.args.text.now c.loop-at.end ≡ 32 = sym c.byte.ensures ∙ c.if-byte-ne32.false in
+    let minus = c.in_ok-literal.literal.minus in
+    elim c.if-variables-literal.branch [
+      | then-variables-literal b ↦ absurd (apart (sym (lt-ltb _ _ b.if-variables-literal.true) ∙ sym b.value-is ∙ c.if-stamp-values.false))
+      | else-variables-literal b ↦
+          rw (c.from.ensures, byte_minus minus)
+          (reading_more c.loop-at.invariant _ (sym w.read) space w.there c.if-literal-eq0.false b.if-variables-literal.false
+          (leb-false _ _ (sym b.value-is ∙ c.if-stamp-values.false)) (sign_low minus))
+    ]

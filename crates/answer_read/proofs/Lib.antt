@@ -1,0 +1,2 @@
+-- What proofs of this crate share. Assumes nothing.
+pub mod ClauseLaws

@@ -1,2 +1,0 @@
--- What several proofs of this crate use. Assumes nothing.
-pub mod Filled
