@@ -20,7 +20,7 @@ fn literal_for(good: GoodRequest, values: &[u8], s: u8) -> u8
 {
     let q = good.request;
     (0..2 * q.n)
-        .find(|v| answer::is_true(values, variables::chosen_number(q.n, q.r, s, *v)))
+        .find(|v| answer::is_true(values, variables::chosen(q.n, q.r, s, *v as u16)))
         .unwrap_or(2 * q.n)
 }
 

@@ -6,19 +6,19 @@ use answer::Form;
 
 // The place of the first newline from at on, where there is one.
 pub(crate) fn line_end(text: &[u8], at: usize) -> Option<usize>
-    requires { at ≤ length text.now }
-    ensures { MatchOption result (line_end text.now at ≡ length text.now) (λ end. (end ≡ line_end text.now at) × (at ≤ end) × (end < length text.now)) }
+    ensures { MatchOption result (length text.now ≤ line_end text.now at)
+        (λ end. (end ≡ line_end text.now at) × (at ≤ end) × (end < length text.now)) }
 {
-    let count = text[at..].iter().position(|byte| *byte == b'\n')?;
+    let count = text.get(at..)?.iter().position(|byte| *byte == b'\n')?;
     Some(at + count)
 }
 
-// Whether the line at the cursor is "s SATISFIABLE".
+// Whether the line at a place is "s SATISFIABLE".
 pub(crate) fn solution_line(text: &[u8], at: usize) -> bool
-    requires { at ≤ length text.now }
     ensures { result ≡ stands_at text.now at solution_line }
 {
-    text[at..].starts_with(b"s SATISFIABLE\n")
+    text.get(at..)
+        .is_some_and(|line| line.starts_with(b"s SATISFIABLE\n"))
 }
 
 // The form of the v line at a place, where it has the form. It is read number by number, each from where the last ends.

@@ -33,11 +33,13 @@ impl Named {
 
     // Takes the numbers of a line that has the form, from the place before the first; each is read from where the last ends.
     pub(crate) fn take(self, text: &[u8], at: usize, values: &mut Values) -> Result<(), Refusal>
-        requires { at ≤ length text.now }
         ensures { NamedBy (named_from (length text.now) self.top self.keep text.now at values.old) result values.new }
     {
         let mut p = at;
-        while let Some(w) = numeral::literal(text, p + 1) {
+        while p < text.len() {
+            let Some(w) = numeral::literal(text, p + 1) else {
+                break;
+            };
             if w.value == 0 {
                 return Ok(());
             }

@@ -2,7 +2,8 @@
 //
 // The paper's section III-A makes a network of a solved graph: Definition 2 has the graph's nodes and edges, Definition 3 says what a
 // node cluster is, and the paragraph below it finds all clusters and merges the nodes of each, by breadth first search. It leaves the
-// steps of that search out; they are the usual ones: a queue, and a mark on each node that is visited. Document 01 has other words:
+// steps of that search out; they are the usual ones: a queue, and a mark on each node that is visited, which is its label. Document 01 has
+// other words:
 //
 //     document 000                        document 01
 //     node                                terminal
@@ -24,6 +25,7 @@ ghost use Rattle.clusters.specs.Search.{entered, visited_at, Labelled, Searching
 use answer::Values;
 use formula_clauses::variables;
 use network::{Labels, TERMINALS};
+use std::array;
 
 // Definition 2: a graph of count nodes, with the values of X that give its internal edges.
 #[derive(Clone, Copy)]
@@ -42,25 +44,23 @@ impl Graph {
     }
 }
 
-// A search: the nodes that are visited, by it or by one before; their labels; the queue, and how many nodes have entered it.
-// The queue is an array with a length: there is no heap, and no node enters twice.
+// A search: the labels of the nodes that are visited, by it or by one before, so that a node is visited exactly where it has a label; the
+// queue, and how many nodes have entered it. The queue is an array with a length: there is no heap, and no node enters twice.
 #[derive(Clone, Copy)]
 struct Search {
-    visited: [bool; TERMINALS],
-    labels: Labels,
+    labels: [Option<u8>; TERMINALS],
     queue: [u8; TERMINALS],
     tail: u8,
 }
 
 impl Search {
-    // Visits a node of the cluster that is searched from start: it is marked, gets its label, and enters the queue.
+    // Visits a node of the cluster that is searched from start: it gets its label, and enters the queue.
     #[tactic(auto, unfolding(crate::specs::Search::entered))]
     fn visit(&mut self, start: u8, node: u8)
         requires { (node < terminals_most) × (self.old.tail < terminals_most) }
         ensures { self.new ≡ entered start node self.old }
     {
-        self.visited[node as usize] = true;
-        self.labels[node as usize] = start;
+        self.labels[node as usize] = Some(start);
         self.queue[self.tail as usize] = node;
         self.tail += 1;
     }
@@ -73,7 +73,7 @@ impl Search {
         ensures { Further graph.now.count (assigned graph.now.values) start node self.old self.new graph.now.count }
     {
         for neighbour in 0..graph.count {
-            if !self.visited[neighbour as usize] && graph.internal_edge(node, neighbour) {
+            if self.labels[neighbour as usize].is_none() && graph.internal_edge(node, neighbour) {
                 self.visit(start, neighbour);
             }
         }
@@ -83,9 +83,9 @@ impl Search {
     // entered it, and the neighbours of each are visited. No node enters twice, so that at most count do, and count - head falls.
     fn find_cluster(&mut self, graph: &Graph, start: u8)
         requires inside { start < graph.now.count }
-        requires new { visited_at self.old.visited start ≡ false }
-        requires labelled { Labelled graph.now.count (assigned graph.now.values) start self.old.visited self.old.labels }
-        ensures { Labelled graph.now.count (assigned graph.now.values) (start + 1) self.new.visited self.new.labels }
+        requires new { visited_at self.old.labels start ≡ false }
+        requires labelled { Labelled graph.now.count (assigned graph.now.values) start self.old.labels }
+        ensures { Labelled graph.now.count (assigned graph.now.values) (start + 1) self.new.labels }
     {
         self.tail = 0;
         self.visit(start, start);
@@ -103,20 +103,19 @@ impl Search {
 pub fn find_labels(count: u8, values: Values) -> Labels
     ensures { result ≡ chain_labels count (assigned values) }
 {
+    if TERMINALS < count as usize {
+        return [0; TERMINALS];
+    }
+    let graph = Graph { count, values };
     let mut search = Search {
-        visited: [false; TERMINALS],
-        labels: [0; TERMINALS],
+        labels: [None; TERMINALS],
         queue: [0; TERMINALS],
         tail: 0,
     };
-    if TERMINALS < count as usize {
-        return search.labels;
-    }
-    let graph = Graph { count, values };
     for start in 0..count {
-        if !search.visited[start as usize] {
+        if search.labels[start as usize].is_none() {
             search.find_cluster(&graph, start);
         }
     }
-    search.labels
+    array::from_fn(|i| search.labels[i].unwrap_or(0))
 }

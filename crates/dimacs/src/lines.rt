@@ -1,7 +1,7 @@
 // Decimal numbers, signed numbers and lines of them as text, written into a lent buffer.
 //
 // A writer promises `Wrote`: the text stands from the place on, the place is moved behind it, and every other byte of the buffer is
-// as it was. Numbers below 10000, as a request's variables, are written by straight code.
+// as it was. Numbers are written in parts of one to four digits, so that a request's variables, below 10000, are one part.
 ghost use Rattle.std.specs.Prelude.{[], ◌∷◌, ◌<◌, length};
 ghost use Rattle.prelude.specs.Signed.{is_negative};
 ghost use Rattle.text.specs.Decimal.{decimal, padded};

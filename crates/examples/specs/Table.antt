@@ -129,8 +129,8 @@ one_report = report_text (49 ∷ 32 ∷ 48 ∷ 49 ∷ 32 ∷ 49 ∷ 32 ∷ 49 �
 -- what settling them says: its number, then its values
 one_settled : List ℕ
 one_settled =
-    verdict_number (settlement one_switch one_answer no_refutation slices).verdict
-    ∷ verdict_values 1 (settlement one_switch one_answer no_refutation slices).verdict
+    verdict_number (settlement one_switch one_answer no_refutation slices)
+    ∷ verdict_values 1 (settlement one_switch one_answer no_refutation slices)
 
 -- the report for a request of no switches, with the answer "s SATISFIABLE", "v 1 0"
 none_report : List ℕ → List ℕ

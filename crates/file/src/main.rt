@@ -16,26 +16,20 @@ use std::io::{Read, Write};
 // The longest input that may be a request, in bytes.
 const LONGEST: usize = 65536;
 
+// Writes the line of a refusal.
 fn refuse<W: Write>(out: &mut W, refusal: Refusal) -> io::Result<()>
     ensures { OnOk result (Appends (W.contents out.old) (W.contents out.new) (refused_text (number refusal))) }
 {
     writeln!(out, "refused {}", refusal.number())
 }
 
-// Writes the first bytes of a buffer.
-fn send<W: Write>(out: &mut W, buffer: &[u8], count: usize) -> io::Result<()>
-    ensures { OnOk result (Appends (W.contents out.old) (W.contents out.new) (take count buffer.now)) }
-{
-    let end = count.min(buffer.len());
-    out.write_all(&buffer[..end])
-}
-
+// Writes the clause file of a request, or the refusal.
 fn write<W: Write>(out: &mut W, q: Request) -> io::Result<()>
     ensures { OnOk result (Appends (W.contents out.old) (W.contents out.new) (request_text q)) }
 {
     let mut buffer = [0u8; 65536];
     match dimacs::write::write_file(q, &mut buffer) {
-        Ok(length) => send(out, &buffer, length),
+        Ok(length) => out.write_all(&buffer[..length]),
         Err(refusal) => refuse(out, refusal),
     }
 }

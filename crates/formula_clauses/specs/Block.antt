@@ -46,11 +46,11 @@ block_literals n r m (On B k) = on_row_literals n r m
 block_literals n r m (Off B k) = off_row_literals n (terminals r) r
 block_literals n r m Free = 0
 
--- the row of a block is one of 2^n, and its variables have 16-bit numbers
+-- the row of a block is one of 2^n
 abbrev pub Fits : ℕ → Block → Type 0
 Fits n Network = Unit {0}
-Fits n (On B k) = (B ≤ 65535) × (k < 2 ^ n)
-Fits n (Off B k) = (B ≤ 65535) × (k < 2 ^ n)
+Fits n (On B k) = k < 2 ^ n
+Fits n (Off B k) = k < 2 ^ n
 Fits n Free = Unit {0}
 
 -- block b of a request

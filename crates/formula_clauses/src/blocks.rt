@@ -14,7 +14,7 @@ use rows::Kind;
 pub(crate) fn row_count(good: GoodRequest) -> u32
     ensures { (result ≡ 2 ^ good.request.n) × (result ≤ 16) }
 {
-    1u32 << (good.request.n as u32)
+    1u32 << good.request.n
 }
 
 // So much for each on row below row k and so much for each off row: the on rows are the ones of the table, and the off rows are what
@@ -29,25 +29,27 @@ pub(crate) fn weighted(good: GoodRequest, k: u32, on: u32, off: u32) -> u32
 }
 
 // The variables before row k.
-pub(crate) fn variables_before(good: GoodRequest, k: u32) -> u32
+pub(crate) fn variables_before(good: GoodRequest, k: u32) -> u16
     requires { k ≤ 2 ^ good.request.n }
-    ensures { (result ≡ variables_before good.request k) × (result ≤ 65535) }
+    ensures { result ≡ variables_before good.request k }
 {
-    let on = on_row::on_row_variables(good);
-    let off = off_row::off_row_variables(good);
-    variables::network_variables(good.request.n, good.request.r) + weighted(good, k, on, off)
+    let on = on_row::on_row_variables(good) as u32;
+    let off = off_row::off_row_variables(good) as u32;
+    let all = variables::network_variables(good.request.n, good.request.r)
+        + weighted(good, k, on, off);
+    all as u16
 }
 
 // Block b of a request, groups 1 and 2 or that of a row, given the variables before that row.
-pub(crate) fn block_from(good: GoodRequest, b: u32, before: u32) -> Block
-    requires { (b ≤ 2 ^ good.request.n) × (before ≡ variables_before good.request (b - 1)) × (before ≤ 65535) }
+pub(crate) fn block_from(good: GoodRequest, b: u32, before: u16) -> Block
+    requires { (b ≤ 2 ^ good.request.n) × (before ≡ variables_before good.request (b - 1)) }
     ensures { (result ≡ block_of good.request b) × Fits good.request.n result }
 {
     if b == 0 {
         return Block::Network;
     }
-    let k = b - 1;
-    match rows::row_kind(good.request, k as u8) {
+    let k = (b - 1) as u8;
+    match rows::row_kind(good.request, k) {
         Kind::On => Block::On(before, k),
         Kind::Off => Block::Off(before, k),
         Kind::Free => Block::Free,
@@ -76,7 +78,7 @@ pub(crate) fn block_there(good: GoodRequest, b: u32) -> Block
 }
 
 // The number of the variables of a block's row.
-pub(crate) fn block_variables(good: GoodRequest, b: Block) -> u32
+pub(crate) fn block_variables(good: GoodRequest, b: Block) -> u16
     ensures { (result ≡ block_variables good.request.r good.request.m b) × (result ≤ 465) }
 {
     match b {

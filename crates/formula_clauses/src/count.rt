@@ -12,7 +12,7 @@ use request::numbers::GoodRequest;
 fn variable_count(good: GoodRequest) -> u32
     ensures { result ≡ variable_count good.request }
 {
-    blocks::variables_before(good, blocks::row_count(good))
+    blocks::variables_before(good, blocks::row_count(good)) as u32
 }
 
 // C

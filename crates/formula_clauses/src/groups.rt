@@ -24,11 +24,10 @@ pub struct Triple {
 
 // The clauses of group 1; each has three literals.
 #[tactic(auto, using(crate::specs::Bounds::pairs_most, crate::specs::Bounds::triples_most, formula::specs::Pairs::Laws::triples_all))]
-fn transitivity_count(r: u32) -> u32
-    requires { r ≤ 255 }
+fn transitivity_count(r: u8) -> u32
     ensures { (result ≡ triples_before (terminals r) (terminals r) * 3) × (result ≤ 67000000) }
 {
-    let terminals = 2 * r + 2;
+    let terminals = 2 * (r as u32) + 2;
     terminals * (terminals - 1) * (terminals - 2) / 2
 }
 
@@ -55,57 +54,53 @@ fn triple_at(count: u32, number: u32) -> Triple
     unreachable!()
 }
 
-// One of the three clauses of i < j < k.
-fn triple_clause(r: u32, i: u32, j: u32, k: u32, part: u32) -> Clause
-    requires { (r ≤ 255) × (i < j) × (j < k) × (k < 2 * r + 2) × (part < 3) }
+// One of the three clauses of i < j < k, by its number among them, as each function here makes a clause by its number.
+fn triple_clause(r: u8, i: u32, j: u32, k: u32, part: u32) -> Clause
+    requires { (i < j) × (j < k) × (k < 2 * r + 2) × (part < 3) }
     ensures { (literals_of result ≡ get_or (triple (terminals r) i j k) part []) × Packed result }
 {
-    let ij = variables::joined(r, i, j);
-    let jk = variables::joined(r, j, k);
-    let ik = variables::joined(r, i, k);
-    if part == 0 {
-        return Clause::Three(negative(ij), negative(jk), positive(ik));
+    let ij = variables::joined(r, i as u16, j as u16);
+    let jk = variables::joined(r, j as u16, k as u16);
+    let ik = variables::joined(r, i as u16, k as u16);
+    match part {
+        0 => Clause::Three(negative(ij), negative(jk), positive(ik)),
+        1 => Clause::Three(negative(ij), negative(ik), positive(jk)),
+        _ => Clause::Three(negative(ik), negative(jk), positive(ij)),
     }
-    if part == 1 {
-        return Clause::Three(negative(ij), negative(ik), positive(jk));
-    }
-    Clause::Three(negative(ik), negative(jk), positive(ij))
 }
 
 // The clause of group 1 with this number.
-fn transitivity_at(r: u32, number: u32) -> Clause
-    requires { (r ≤ 255) × (number < length (transitivity (terminals r))) }
+fn transitivity_at(r: u8, number: u32) -> Clause
+    requires { number < length (transitivity (terminals r)) }
     ensures { (literals_of result ≡ get_or (transitivity (terminals r)) number []) × Packed result }
 {
-    let t = triple_at(2 * r + 2, number / 3);
+    let t = triple_at(2 * (r as u32) + 2, number / 3);
     triple_clause(r, t.i, t.j, t.k, number % 3)
 }
 
 // The clauses of group 2 for one switch.
-fn choice_count(n: u32) -> u32
-    requires { n ≤ 255 }
+fn choice_count(n: u8) -> u32
     ensures { (result ≡ pairs_before (2 * n) (2 * n) + 1) × (result ≤ 131073) }
 {
-    pairs::pairs_below(2 * n) + 1
+    pairs::pairs_below(2 * (n as u32)) + 1
 }
 
 // The clause of group 2 with this number.
-fn choice_at(n: u32, r: u32, number: u32) -> Clause
-    requires { (1 ≤ n) × (n ≤ 255) × (r ≤ 255) × (number < length (choices n (terminals r) r)) }
+fn choice_at(n: u8, r: u8, number: u32) -> Clause
+    requires { (1 ≤ n) × (number < length (choices n (terminals r) r)) }
     ensures { (literals_of result ≡ get_or (choices n (terminals r) r) number []) × Packed result }
 {
+    let literals = 2 * (n as u32);
     let count = choice_count(n);
-    let s = number / count;
+    let s = (number / count) as u8;
     let part = number % count;
     if part == 0 {
-        return Clause::Run(variables::chosen(n, r, s, 0), 2 * n);
+        return Clause::Run(variables::chosen(n, r, s, 0), literals);
     }
-    let p = pairs::pair_at(2 * n, part - 1);
-    let v = p.v;
-    let w = p.w;
+    let p = pairs::pair_at(literals, part - 1);
     Clause::Two(
-        negative(variables::chosen(n, r, s, v)),
-        negative(variables::chosen(n, r, s, w)),
+        negative(variables::chosen(n, r, s, p.v as u16)),
+        negative(variables::chosen(n, r, s, p.w as u16)),
     )
 }
 
@@ -114,13 +109,12 @@ pub(crate) fn network_at(good: GoodRequest, number: u32) -> Clause
     requires { number < network_count good.request.n good.request.r }
     ensures { (literals_of result ≡ get_or (clauses_in good.request Network) number []) × Packed result }
 {
-    let n = good.request.n as u32;
-    let r = good.request.r as u32;
-    let nets = transitivity_count(r);
+    let q = good.request;
+    let nets = transitivity_count(q.r);
     if number < nets {
-        return transitivity_at(r, number);
+        return transitivity_at(q.r, number);
     }
-    choice_at(n, r, number - nets)
+    choice_at(q.n, q.r, number - nets)
 }
 
 // The number of clauses of groups 1 and 2.
@@ -128,7 +122,7 @@ pub(crate) fn network_at(good: GoodRequest, number: u32) -> Clause
 pub fn network_count(n: u8, r: u8) -> u32
     ensures { (result ≡ network_count n r) × (result ≤ 200000000) }
 {
-    transitivity_count(r as u32) + (r as u32) * choice_count(n as u32)
+    transitivity_count(r) + (r as u32) * choice_count(n)
 }
 
 // The number of their literals.
@@ -136,12 +130,12 @@ pub fn network_count(n: u8, r: u8) -> u32
 pub(crate) fn network_literals(n: u8, r: u8) -> u32
     ensures { (result ≡ network_literals n r) × (result ≤ 400000000) }
 {
-    let inputs = n as u32;
-    let switches = r as u32;
-    3 * transitivity_count(switches) + switches * (2 * inputs + 2 * pairs::pairs_below(2 * inputs))
+    let literals = 2 * (n as u32);
+    3 * transitivity_count(r) + (r as u32) * (literals + 2 * pairs::pairs_below(literals))
 }
 
-// The clause of groups 1 and 2 of a request with this number; the empty one where there is none, or where the request is refused.
+// The clause of groups 1 and 2 of a request with this number; the empty one where there is none, or where the request is refused, so
+// that it cannot fail.
 pub fn network_clause(q: Request, number: u32) -> Clause
     ensures literals { literals_of result ≡ network_clause q number }
     ensures form { result ≡ packed (network_clause q number) }

@@ -8,10 +8,10 @@ mod blocks;
 pub mod count;
 pub mod groups;
 pub mod number;
-mod off_row;
-mod on_row;
+pub mod off_row;
+pub mod on_row;
 mod pairs;
-mod row;
+pub mod row;
 pub mod store;
 mod values;
 pub mod variables;
@@ -21,7 +21,7 @@ pub mod variables;
 #[derive(Clone, Copy)]
 pub enum Block {
     Network,
-    On(u32, u32),
-    Off(u32, u32),
+    On(u16, u8),
+    Off(u16, u8),
     Free,
 }

@@ -22,7 +22,7 @@ fn row_of(good: GoodRequest, on: u32, off: u32, number: u32) -> Option<u32>
     )
 }
 
-// The clause of a request with this number; the empty one where there is none, or where the request is refused.
+// The clause of a request with this number; the empty one where there is none, or where the request is refused, so that it cannot fail.
 pub fn clause_at(q: Request, number: u32) -> Clause
     ensures literals { literals_of result ≡ clause_of q number }
     ensures form { result ≡ packed (clause_of q number) }

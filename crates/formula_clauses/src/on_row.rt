@@ -15,10 +15,10 @@ use request::numbers::GoodRequest;
 
 // The variables of an on row: for each step its ends and its stop.
 #[tactic(auto, using(crate::specs::Block::Laws::row_bounds))]
-pub(crate) fn on_row_variables(good: GoodRequest) -> u32
+pub fn on_row_variables(good: GoodRequest) -> u16
     ensures { (result ≡ good.request.m * (2 * good.request.r + 1)) × (result ≤ 465) }
 {
-    (good.request.m as u32) * (2 * (good.request.r as u32) + 1)
+    (good.request.m as u16) * (2 * (good.request.r as u16) + 1)
 }
 
 // The clauses of an on row.
@@ -66,13 +66,14 @@ fn closed_step_at(row: Row, number: u32) -> Clause
     requires { number < row.m * (2 * row.r * row.n) }
     ensures { (literals_of result ≡ get_or (closed_step row.n row.r row.m row.before (literal_on row.n row.k)) number []) × Packed result }
 {
-    let step = 2 * row.r * row.n;
+    let n = row.n as u32;
+    let step = 2 * (row.r as u32) * n;
     let t = number / step + 1;
-    let e = number % step / row.n + 1;
-    let v = values::literal_with(row.n, row.k, false, number % step % row.n);
+    let e = number % step / n + 1;
+    let v = values::literal_with(row, false, number % step % n);
     Clause::Two(
-        negative(variables::entered(row.r, row.before, t, e)),
-        negative(variables::chosen(row.n, row.r, (e - 1) / 2, v)),
+        negative(row.entered(t, e)),
+        negative(row.chosen((e - 1) / 2, v)),
     )
 }
 
@@ -83,8 +84,8 @@ fn first_step_at(row: Row, number: u32) -> Clause
 {
     let e = number + 1;
     Clause::Two(
-        negative(variables::entered(row.r, row.before, 1, e)),
-        positive(variables::joined(row.r, 0, e)),
+        negative(row.entered(1, e)),
+        positive(variables::joined(row.r, 0, e as u16)),
     )
 }
 
@@ -93,7 +94,7 @@ fn link_step_at(row: Row, number: u32) -> Clause
     requires { number < (row.m - 1) * (2 * row.r * (2 * row.r)) }
     ensures { (literals_of result ≡ get_or (link_step row.r row.m row.before) number []) × Packed result }
 {
-    let ends = 2 * row.r;
+    let ends = 2 * (row.r as u32);
     let step = ends * ends;
     let t = number / step + 1;
     let e = number % step / ends + 1;
@@ -101,9 +102,9 @@ fn link_step_at(row: Row, number: u32) -> Clause
     let end = other_end(e);
     let g = if place < end { place } else { place + 1 };
     Clause::Three(
-        negative(variables::entered(row.r, row.before, t, e)),
-        negative(variables::entered(row.r, row.before, t + 1, g)),
-        positive(variables::joined(row.r, end, g)),
+        negative(row.entered(t, e)),
+        negative(row.entered(t + 1, g)),
+        positive(variables::joined(row.r, end as u16, g as u16)),
     )
 }
 
@@ -114,8 +115,8 @@ fn last_step_at(row: Row, number: u32) -> Clause
 {
     let e = number + 1;
     Clause::Two(
-        negative(variables::entered(row.r, row.before, row.m, e)),
-        positive(variables::joined(row.r, other_end(e), 2 * row.r + 1)),
+        negative(row.entered(row.m as u32, e)),
+        positive(variables::joined(row.r, other_end(e) as u16, 2 * (row.r as u16) + 1)),
     )
 }
 
@@ -124,16 +125,17 @@ pub(crate) fn on_row_at(row: Row, number: u32) -> Clause
     requires { number < on_row_count row.n row.r row.m }
     ensures { (literals_of result ≡ get_or (on_row row.n row.r row.m row.before (literal_on row.n row.k)) number []) × Packed result }
 {
-    let r = row.r;
-    let m = row.m;
-    let closed = m * (2 * r * row.n);
+    let n = row.n as u32;
+    let r = row.r as u32;
+    let m = row.m as u32;
+    let closed = m * (2 * r * n);
     let first = 2 * r + 1;
     if number < m + closed + first {
         if m == 0 {
-            return Clause::Run(variables::joined(r, 0, 2 * r + 1), 1);
+            return Clause::Run(variables::joined(row.r, 0, 2 * (row.r as u16) + 1), 1);
         }
         if number < m {
-            return Clause::Run(variables::entered(r, row.before, number + 1, 1), 2 * r + 1);
+            return Clause::Run(row.entered(number + 1, 1), 2 * r + 1);
         }
         let past_some = number - m;
         if past_some < closed {

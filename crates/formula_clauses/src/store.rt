@@ -10,11 +10,10 @@ ghost use Rattle.cnf.specs.Cnf.{signed_of};
 ghost use Rattle.formula.specs.Clause.{run, Low, literals_of};
 ghost use Rattle.prelude.specs.Blocks.{flatten, pairs_from};
 ghost use Rattle.formula.specs.Formula.{formula_of};
-ghost use Rattle.formula.specs.Count.{variables_most};
 ghost use Rattle.formula_clauses.specs.Block.{clauses_in};
 ghost use Rattle.formula_clauses.specs.Store.{signs, room_refusal, store_refusal, store_sizes, stored_literals, stored_pairs, Roomy, BlockRoom, block_sizes, block_literals_in, block_pairs_in};
 
-use crate::{Block, blocks, count, variables};
+use crate::{Block, blocks, count};
 use cnf::Literal;
 use formula::{Clause, Sizes};
 use refusal::Refusal;
@@ -30,49 +29,48 @@ fn signed(literal: Literal) -> i32
     if literal.negative { -x } else { x }
 }
 
-// Stores one literal; the place after it.
-fn put(literals: &mut [i32], at: usize, x: Literal) -> usize
-    requires { (x.variable ≤ variables_most) × (at < length literals.old) }
-    ensures { (result ≡ at + 1) × (literals.new ≡ written literals.old at (signed_of x ∷ [])) }
+// Stores the positive literals of the variables from first on, one in each entry.
+fn put_run(entries: &mut [i32], first: u32)
+    requires { Low (run first (length entries.old)) }
+    ensures { entries.new ≡ signs (run first (length entries.old)) }
 {
-    literals[at] = signed(x);
-    at + 1
-}
-
-// Stores the positive literals of count variables from first on.
-fn put_run(literals: &mut [i32], at: usize, first: u32, count: u32) -> usize
-    requires { Low (run first count) × (at + count ≤ length literals.old) }
-    ensures { (result ≡ at + count) × (literals.new ≡ written literals.old at (signs (run first count))) }
-{
-    let mut to = at;
-    for i in 0..count {
-        to = put(literals, to, cnf::positive(first + i));
+    for (i, entry) in entries.iter_mut().enumerate() {
+        *entry = signed(cnf::positive(first + i as u32));
     }
-    to
 }
 
-// Stores some literals, one after the other.
-fn put_all(literals: &mut [i32], at: usize, these: &[Literal]) -> usize
-    requires { Low these.now × (at + length these.now ≤ length literals.old) }
-    ensures { (result ≡ at + length these.now) × (literals.new ≡ written literals.old at (signs these.now)) }
+// Stores some literals, one in each entry.
+fn put_all(entries: &mut [i32], these: &[Literal])
+    requires { Low these.now × (length these.now ≡ length entries.old) }
+    ensures { entries.new ≡ signs these.now }
 {
-    let mut to = at;
-    for x in these {
-        to = put(literals, to, *x);
+    for (i, entry) in entries.iter_mut().enumerate() {
+        *entry = signed(these[i]);
     }
-    to
 }
 
-// Stores a clause's literals.
-fn put_clause(literals: &mut [i32], at: usize, c: Clause) -> usize
-    requires { Low (literals_of c) × (at + length (literals_of c) ≤ length literals.old) }
-    ensures { (result ≡ at + length (literals_of c)) × (literals.new ≡ written literals.old at (signs (literals_of c))) }
+// How many literals a clause has.
+fn clause_size(c: Clause) -> usize
+    ensures { result ≡ length (literals_of c) }
 {
     match c {
-        Clause::Run(first, count) => put_run(literals, at, first, count),
-        Clause::One(x) => put_all(literals, at, &[x]),
-        Clause::Two(x, y) => put_all(literals, at, &[x, y]),
-        Clause::Three(x, y, z) => put_all(literals, at, &[x, y, z]),
+        Clause::Run(_, count) => count as usize,
+        Clause::One(_) => 1,
+        Clause::Two(_, _) => 2,
+        Clause::Three(_, _, _) => 3,
+    }
+}
+
+// Stores a clause's literals, one in each entry.
+fn put_clause(entries: &mut [i32], c: Clause)
+    requires { Low (literals_of c) × (length (literals_of c) ≡ length entries.old) }
+    ensures { entries.new ≡ signs (literals_of c) }
+{
+    match c {
+        Clause::Run(first, _) => put_run(entries, first),
+        Clause::One(x) => put_all(entries, &[x]),
+        Clause::Two(x, y) => put_all(entries, &[x, y]),
+        Clause::Three(x, y, z) => put_all(entries, &[x, y, z]),
     }
 }
 
@@ -135,9 +133,10 @@ fn fill_block(
     let mut at = from;
     for j in 0..count {
         let c = blocks::block_clause(good, block, j);
-        let end = put_clause(literals, at, c);
-        put_pair(pairs, (first + j) as usize, at as u32, (end - at) as u32);
-        at = end;
+        let size = clause_size(c);
+        put_clause(&mut literals[at..at + size], c);
+        put_pair(pairs, (first + j) as usize, at as u32, size as u32);
+        at += size;
     }
     at
 }
@@ -150,7 +149,7 @@ fn fill(good: GoodRequest, literals: &mut [i32], pairs: &mut [u32])
 {
     let mut first: u32 = 0;
     let mut at: usize = 0;
-    let mut before = variables::network_variables(good.request.n, good.request.r);
+    let mut before = blocks::variables_before(good, 0);
     for b in 0..blocks::row_count(good) + 1 {
         let block = blocks::block_from(good, b, before);
         let count = blocks::block_count(good, block);

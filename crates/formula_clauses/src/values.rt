@@ -1,13 +1,16 @@
 // The literals that have a given value on a row, by number, rising. The value is what is sought, and no step to run, so no closure.
-ghost use Rattle.std.specs.Prelude.{◌≡◌, ◌*◌, ◌^◌, ◌≤◌, ◌<◌};
+ghost use Rattle.std.specs.Prelude.{◌≡◌, ◌*◌, ◌<◌};
 ghost use Rattle.formula_clauses.specs.Word.{value_word};
 ghost use Rattle.formula.specs.Values.{has_value, NthIs};
 
-// The literals' values on row k as the bits of a word, literal 0 the highest: 1 for those that have the value.
-fn value_word(n: u32, k: u32, value: bool) -> u32
-    requires { (n ≤ 8) × (k < 2 ^ n) }
-    ensures { result ≡ value_word n k value }
+use crate::row::Row;
+
+// The literals' values on the row as the bits of a word, literal 0 the highest: 1 for those that have the value.
+fn value_word(row: Row, value: bool) -> u32
+    ensures { result ≡ value_word row.n row.k value }
 {
+    let n = row.n as u32;
+    let k = row.k as u32;
     let ones = (1u32 << n) - 1;
     if value {
         return (k << n) + (ones - k);
@@ -15,12 +18,13 @@ fn value_word(n: u32, k: u32, value: bool) -> u32
     ((ones - k) << n) + k
 }
 
-// The literal with this number among those that have the value on row k.
-pub(crate) fn literal_with(n: u32, k: u32, value: bool, number: u32) -> u32
-    requires { (1 ≤ n) × (n ≤ 8) × (k < 2 ^ n) × (number < n) }
-    ensures { NthIs (has_value n k value) (2 * n) number result }
+// The literal with this number among those that have the value on the row.
+pub(crate) fn literal_with(row: Row, value: bool, number: u32) -> u32
+    requires { number < row.n }
+    ensures { NthIs (has_value row.n row.k value) (2 * row.n) number result }
 {
-    let word = value_word(n, k, value);
+    let n = row.n as u32;
+    let word = value_word(row, value);
     let mut rest = number;
     for v in 0..2 * n {
         if (word >> (2 * n - 1 - v)) % 2 == 1 {

@@ -6,7 +6,7 @@ use Rattle.request.specs.Numbers.{refusal_of}
 use Rattle.formula.specs.Formula.{formula_of}
 use Rattle.formula.specs.Count.{variable_count}
 use Rattle.lrat_check.specs.Refutation.{Lent, check_number, check_values, check_leaves}
-use Rattle.settle.specs.Settle.{settle_number, settle_values, settlement, settle_leaves}
+use Rattle.settle.specs.Settle.{settled_network, settle_number, settle_values, settlement, settle_leaves}
 use Rattle.host.specs.Bytes.{network_bytes}
 pub mod Laws
 
@@ -22,7 +22,7 @@ check_code number values = cond (eqb number 0) (length values) 2
 abbrev pub check_detail : ℕ → List ℕ → ℕ
 check_detail number values = get_or values 0 number
 
--- what settling answers a host: which of the four verdicts it is
+-- what settling answers a host: which of the four it is, a refusal after the three verdicts
 abbrev pub verdict_code : List ℕ → ℕ
 verdict_code values = get_or values 0 0
 
@@ -40,5 +40,5 @@ pub record Checks (q : Request) (text : List ℕ) (before : Lent) (answer count 
 pub record Settles (q : Request) (answer refutation : List ℕ) (before : Lent) (code number : ℕ) (network : List ℕ) (after : Lent) : Type 0 where
   pub verdict_is : code ≡ verdict_code (settle_values q answer refutation before)
   pub number_is : number ≡ verdict_detail (settle_number q answer) (settle_values q answer refutation before)
-  pub network_is : network ≡ network_bytes (settlement q answer refutation before).network
+  pub network_is : network ≡ network_bytes (settled_network (settlement q answer refutation before))
   pub slices_are : after ≡ settle_leaves q answer refutation before

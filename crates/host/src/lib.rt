@@ -16,7 +16,7 @@ ghost use Rattle.encoding.specs.Encoding.{FileMeans};
 ghost use Rattle.cnf.specs.Cnf.{Satisfiable};
 ghost use Rattle.formula.specs.Formula.{formula_of};
 ghost use Rattle.lrat_check.specs.Refutation.{lent};
-ghost use Rattle.settle.specs.Settle.{verdict_number, verdict_values};
+ghost use Rattle.settle.specs.Settle.{said_values};
 ghost use Rattle.host.specs.Bytes.{network_of};
 ghost use Rattle.host.specs.Entries.{size_numbers, check_code, check_detail, verdict_code, verdict_detail, Checks, Settles};
 
@@ -197,27 +197,25 @@ pub fn nk_check_refutation(
     }
 }
 
-// The number of a verdict for the host, since C takes no enum with values: 0 least, 1 works, 2 fails, 3 refused.
+// The number of a verdict for the host, since C takes no enum with values: 0 least, 1 works, 2 fails.
 fn verdict_code(k: u8, verdict: Verdict) -> u32
-    ensures { result ≡ verdict_code (verdict_values k verdict) }
+    ensures { result ≡ verdict_code (said_values k verdict) }
 {
     match verdict {
         Verdict::Least => 0,
         Verdict::Works(_) => 1,
         Verdict::Fails(_) => 2,
-        Verdict::Refused(_) => 3,
     }
 }
 
-// The number that goes with a verdict: the refutation's, the row or the refusal; 0 with "least".
+// The number that goes with a verdict: the refutation's or the row; 0 with "least".
 fn verdict_detail(k: u8, verdict: Verdict) -> u32
-    ensures { result ≡ verdict_detail (verdict_number verdict) (verdict_values k verdict) }
+    ensures { result ≡ verdict_detail 0 (said_values k verdict) }
 {
     match verdict {
         Verdict::Least => 0,
         Verdict::Works(refusal) => u32::from(refusal),
         Verdict::Fails(row) => u32::from(row),
-        Verdict::Refused(refusal) => u32::from(refusal),
     }
 }
 
@@ -241,7 +239,7 @@ pub fn nk_settle(
     ensures settles { Settles (asked n table free k m) answer.now refutation.now (lent literals.old pairs.old added.old values.old) result number.new network.new (lent literals.new pairs.new added.new values.new) }
     ensures least { result ≡ 0 → LeastFor (asked n table free k m) (network_of network.new) }
 {
-    let settled = settle::settle(
+    match settle::settle(
         Request::new(n, table, free, k, m),
         answer,
         refutation,
@@ -249,8 +247,16 @@ pub fn nk_settle(
         pairs,
         added,
         values,
-    );
-    *network = bytes::network_bytes(settled.network);
-    *number = verdict_detail(k, settled.verdict);
-    verdict_code(k, settled.verdict)
+    ) {
+        Ok(settled) => {
+            *network = bytes::network_bytes(settled.network);
+            *number = verdict_detail(k, settled.verdict);
+            verdict_code(k, settled.verdict)
+        }
+        Err(settle_refused) => {
+            *network = bytes::network_bytes(network::value::zero_network());
+            *number = u32::from(settle_refused);
+            3
+        }
+    }
 }

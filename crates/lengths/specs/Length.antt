@@ -68,12 +68,3 @@ pub record NetsOf (r ends outer : ℕ) : Type 0 where
   pub outer_are : outer ≡ joined_to r 0 + joined_to r (2 * r + 1)
   pub ends_few : ends ≤ 5580
   pub outer_few : outer ≤ 372
-
--- row k of n inputs, r switches and the series bound m, which B variables are before; a request has fewer of each
-pub record RowFits (n r m B k : ℕ) : Type 0 where
-  pub n_low : 1 ≤ n
-  pub n_high : n ≤ inputs_most
-  pub r_high : r ≤ 15
-  pub m_high : m ≤ 15
-  pub B-high : B ≤ 65535
-  pub row_high : k < 2 ^ n

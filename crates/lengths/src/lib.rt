@@ -17,7 +17,7 @@ fn body_length(nets: Nets) -> u32
     ensures { result ≡ lines_length (formula_of nets.good.request) }
 {
     let q = nets.good.request;
-    let mut before = variables::network_variables(q.n, q.r);
+    let mut before = variables::network_variables(q.n, q.r) as u16;
     let mut total = parts::network_length(nets.good);
     for k in 0..1u8 << q.n {
         let row = parts::row_size(nets, k, before);

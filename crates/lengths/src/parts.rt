@@ -11,10 +11,11 @@ ghost use Rattle.formula.specs.Count.{variables_before};
 ghost use Rattle.formula_clauses.specs.declared.Block.TheVariants.{Network};
 ghost use Rattle.formula_clauses.specs.Block.{block_clauses, block_variables, block_of, clauses_of};
 ghost use Rattle.lengths.specs.Lines.{literal_length, lines_length};
-ghost use Rattle.lengths.specs.Length.{run_length, chosen_at, chosen_of, chosen_length, joined_at, joined_to, joined_ends, step_length, steps_length, link_length, links_length, NetsOf, RowFits};
+ghost use Rattle.lengths.specs.Length.{run_length, chosen_at, chosen_of, chosen_length, joined_at, joined_to, joined_ends, step_length, steps_length, link_length, links_length, NetsOf};
 
 use crate::sums::sum_below;
-use formula_clauses::{groups, variables};
+use formula_clauses::row::Row;
+use formula_clauses::{groups, off_row, on_row, variables};
 use request::numbers::GoodRequest;
 use rows::Kind;
 
@@ -47,28 +48,13 @@ fn literal_length(v: u32) -> u32
     text::decimal_length(v) as u32 + 1
 }
 
-// A row: n inputs, r switches, the series bound M, the number of variables before the row, the row, and the lengths of X that an on
-// row has, as Nets has them.
-#[derive(Clone, Copy)]
-pub struct Row {
-    pub n: u8,
-    pub r: u8,
-    pub m: u8,
-    pub before: u32,
-    pub k: u8,
-    pub ends: u32,
-    pub outer: u32,
-    ghost fits: { RowFits n r m before k },
-    ghost nets: { NetsOf r ends outer },
-}
-
 // The length of L(s,v) if the literal v has the value on the row, which is what is sought, and no step to run.
 fn chosen_at(row: Row, value: bool, s: u8, v: u8) -> u32
     requires { (s < row.r) × (v < 2 * row.n) }
     ensures { (result ≡ chosen_at row.n row.r row.k value s v) × (result ≤ 6) }
 {
     if rows::literal_on(row.n, row.k, v) == value {
-        return literal_length(variables::chosen_number(row.n, row.r, s, v));
+        return literal_length(variables::chosen(row.n, row.r, s, v as u16));
     }
     0
 }
@@ -108,7 +94,7 @@ fn joined_at(good: GoodRequest, a: u8, g: u8) -> u32
     if 1 + g == a {
         return 0;
     }
-    literal_length(variables::joined_number(good.request.r, a, 1 + g))
+    literal_length(variables::joined(good.request.r, a as u16, 1 + g as u16))
 }
 
 // The length of X(a,g) for each terminal g but the source and a.
@@ -156,7 +142,7 @@ fn step_before(row: Row, t: u8) -> u32
     requires { t ≤ 15 }
     ensures { (result ≡ row.before + t * (2 * row.r + 1)) × (result ≤ 66000) }
 {
-    row.before + (t as u32) * (2 * (row.r as u32) + 1)
+    (row.before as u32) + (t as u32) * (2 * (row.r as u32) + 1)
 }
 
 // For each step.
@@ -175,27 +161,28 @@ fn steps_length(row: Row, chosen: u32) -> u32
 
 // The length of those about a step and the next: for each end 2r clauses of it and what follows it, both negative, and an X. Each end
 // of the next step, and its stop, follows all ends, but an end does not follow the other end of its switch.
-fn link_length(row: Row, at: u32) -> u32
-    requires { at ≤ 66000 }
-    ensures { (result ≡ link_length row.r at row.ends) × (result ≤ 20200) }
+fn link_length(row: Row, at: u32, joined: u32) -> u32
+    requires { (at ≤ 66000) × (joined ≤ 5580) }
+    ensures { (result ≡ link_length row.r at joined) × (result ≤ 20200) }
 {
     let r = row.r as u32;
     let next = at + (2 * r + 1);
     let ends = run_length(at + 1, 2 * r);
     let stop = run_length(next + 1, 2 * r + 1);
-    2 * r * (8 * r + ends + stop) + row.ends - run_length(next + 1, 2 * r)
+    2 * r * (8 * r + ends + stop) + joined - run_length(next + 1, 2 * r)
 }
 
 // For each step but the last.
-fn links_length(row: Row) -> u32
-    ensures { (result ≡ links_length row.r row.m row.before row.ends) × (result ≤ 303000) }
+fn links_length(row: Row, joined: u32) -> u32
+    requires { joined ≤ 5580 }
+    ensures { (result ≡ links_length row.r row.m row.before joined) × (result ≤ 303000) }
 {
     sum_below(
         row.m.saturating_sub(1),
         20200,
         |t|
-            requires { t ≤ 15 }
-        { link_length(row, step_before(row, t)) },
+            requires { (t ≤ 15) × (joined ≤ 5580) }
+        { link_length(row, step_before(row, t), joined) },
     )
 }
 
@@ -221,19 +208,20 @@ pub(crate) fn nets_of(good: GoodRequest) -> Nets
 
 // The length of an on row's lines: those of single steps and of two, and the clauses of the first and the last step, each a negative
 // variable and an X.
-fn on_row_length(row: Row) -> u32
+fn on_row_length(nets: Nets, row: Row) -> u32
+    requires { row.r ≡ nets.good.request.r }
     ensures { (result ≡ lines_length (on_row row.n row.r row.m row.before (literal_on row.n row.k))) × (result ≤ 400000) }
 {
     let r = row.r as u32;
     if row.m == 0 {
-        return literal_length(variables::joined_number(row.r, 0, 2 * row.r + 1)) + 2;
+        return literal_length(variables::joined(row.r, 0, 2 * (row.r as u16) + 1)) + 2;
     }
     let chosen = chosen_length(row, false);
     let single = steps_length(row, chosen);
-    let double = links_length(row);
-    let first = run_length(row.before + 1, 2 * r + 1);
+    let double = links_length(row, nets.ends);
+    let first = run_length((row.before as u32) + 1, 2 * r + 1);
     let last = run_length(step_before(row, row.m - 1) + 1, 2 * r);
-    single + double + (12 * r + 3 + first + last) + row.outer
+    single + double + (12 * r + 3 + first + last) + nets.outer
 }
 
 // The length of an off row's lines for the pairs of terminals: two clauses for each, with two negative literals. Without inputs the X
@@ -245,7 +233,7 @@ fn net_sides_length(row: Row) -> u32
     let r = row.r as u32;
     let pairs = variables::network_variables(0, row.r);
     let joined = run_length(1, pairs);
-    let sides = run_length(row.before + 1, 2 * r + 2);
+    let sides = run_length((row.before as u32) + 1, 2 * r + 2);
     8 * pairs + 2 * joined + 2 * ((2 * r + 1) * sides)
 }
 
@@ -255,7 +243,7 @@ fn switch_sides_length(row: Row) -> u32
 {
     let n = row.n as u32;
     let r = row.r as u32;
-    let ends = run_length(row.before + 2, 2 * r);
+    let ends = run_length((row.before as u32) + 2, 2 * r);
     n * (8 * r + 2 * ends) + 2 * chosen_length(row, true)
 }
 
@@ -263,8 +251,9 @@ fn switch_sides_length(row: Row) -> u32
 fn off_row_length(row: Row) -> u32
     ensures { (result ≡ lines_length (off_row row.n (terminals row.r) row.r row.before (literal_on row.n row.k))) × (result ≤ 50000) }
 {
-    let source = literal_length(row.before + 1);
-    let sink = literal_length(row.before + 2 * (row.r as u32) + 2);
+    let before = row.before as u32;
+    let source = literal_length(before + 1);
+    let sink = literal_length(before + 2 * (row.r as u32) + 2);
     5 + source + sink + net_sides_length(row) + switch_sides_length(row)
 }
 
@@ -287,36 +276,35 @@ pub(crate) fn network_length(good: GoodRequest) -> u32
 // How many variables a row has, and how long its lines are.
 #[derive(Clone, Copy)]
 pub struct RowSize {
-    pub variables: u32,
+    pub variables: u16,
     pub length: u32,
 }
 
 // Those of row k, which `before` variables are before.
-pub(crate) fn row_size(nets: Nets, k: u8, before: u32) -> RowSize
-    requires { (k < 2 ^ nets.good.request.n) × (before ≡ variables_before nets.good.request k) × (before ≤ 65535) }
+pub(crate) fn row_size(nets: Nets, k: u8, before: u16) -> RowSize
+    requires { (k < 2 ^ nets.good.request.n) × (before ≡ variables_before nets.good.request k) }
     ensures variables { (result.variables ≡ block_variables nets.good.request.r nets.good.request.m (block_of nets.good.request (k + 1))) × (result.variables ≤ 465) }
     ensures length { (result.length ≡ lines_length (clauses_of nets.good.request (k + 1))) × (result.length ≤ 400000) }
 {
     let q = nets.good.request;
+    // as `Row::of` makes it, which asks that the row is there
     let row = Row {
         n: q.n,
         r: q.r,
         m: q.m,
-        before: before,
-        k: k,
-        ends: nets.ends,
-        outer: nets.outer,
+        before,
+        k,
     };
     match rows::row_kind(q, k) {
         Kind::On => {
             RowSize {
-                variables: (q.m as u32) * (2 * (q.r as u32) + 1),
-                length: on_row_length(row),
+                variables: on_row::on_row_variables(nets.good),
+                length: on_row_length(nets, row),
             }
         }
         Kind::Off => {
             RowSize {
-                variables: 2 * (q.r as u32) + 2,
+                variables: off_row::off_row_variables(nets.good),
                 length: off_row_length(row),
             }
         }

@@ -1,7 +1,9 @@
 -- A word of a run of ids: what it says of the run, and where it ends. Assumes nothing.
-use Rattle.std.specs.Prelude.{◌≡◌, refl, List, [], false, ℕ, zero, suc, ◌+◌, ◌≤◌, ◌<◌, length, IsNone, IfSome, Some, None, Result}
+use Rattle.std.specs.Prelude.{◌≡◌, refl, List, [], false, ℕ, zero, suc, ◌+◌, ◌≤◌, ◌<◌, length, IsNone, IfSome, Some, None, Result, Err}
+use Rattle.std.specs.Option.{ok_or}
 use Rattle.std.proofs.Common.{Option, sym, ap, ◌∙◌, ⊎_elim, arith}
 use Rattle.refusal.specs.declared.Refusal.{Refusal}
+use Rattle.refusal.specs.declared.Refusal.TheVariants.{LineForm}
 use Rattle.refusal.specs.Refusal.{unless}
 use Rattle.numeral.specs.declared.Word.{Word}
 use Rattle.numeral.specs.Number.{Read, byte_at, no_word, number_at}
@@ -49,6 +51,11 @@ place_is (suc n) k e = cc
 pub place_there : (n k : ℕ) → Some k ≡ place_of n → k ≡ 0 → ⊥
 place_there zero k e z = absurd (cc)
 place_there (suc n) k e z = let q : k ≡ suc n = cc in omega arith
+
+-- ---- where nothing is read that has the form, what `ok_or` and `?` return is the refusal by form
+pub formless : {A B : Type 0} {o : Option A} {r : Result B Refusal} {x : Refusal} → (y : Refusal) × (r ≡ Err y) × (y ≡ x) → Err x ≡ ok_or o LineForm → o ≡ None
+    → r ≡ Err LineForm
+formless p e n = let h = rw n at e in let z : p.0 ≡ LineForm = p.2 ∙ (cc) in p.1 ∙ ap Err z
 
 -- ---- deletions
 -- where no number stands there are no more ids

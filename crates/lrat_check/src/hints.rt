@@ -2,24 +2,25 @@
 // they are spent without conflict.
 ghost use Rattle.std.specs.Prelude.{◌≡◌, ◌+◌, ◌≤◌, length, IfSome};
 ghost use Rattle.refusal.specs.Refusal.{number_of};
-ghost use Rattle.lrat.specs.Bytes.{last_stamp, DuringLine, formula_in};
+ghost use Rattle.lrat.specs.Bytes.{DuringLine, formula_in};
 ghost use Rattle.lrat.specs.Rules.{spent};
 ghost use Rattle.lrat.specs.State.{AfterHint, AfterHints};
 ghost use Rattle.lrat.specs.Results.{hint_code, hints_read};
 
 use crate::clause::{Clauses, Values};
+use crate::stamp::Stamp;
 use crate::words;
 use lrat::{Found, HintsRead};
 use refusal::Refusal;
 
 impl Clauses<'_> {
     // One hint: what it ends the hints in, Ok in the conflict, 19 or 20; none where a literal was set true and the hints go on.
-    fn hint(self, x: usize, values: &mut [u8], stamp: u8) -> Option<Result<(), Refusal>>
+    fn hint(self, x: usize, values: &mut [u8], stamp: Stamp) -> Option<Result<(), Refusal>>
         requires positive { 1 ≤ x }
-        requires values_len { (length values.old ≡ self.store.variables + 1) × (stamp ≤ last_stamp) }
-        requires during_line { DuringLine stamp values.old }
+        requires values_len { length values.old ≡ self.store.variables + 1 }
+        requires during_line { DuringLine stamp.byte values.old }
         ensures after { AfterHint (formula_in self.entry.store.count self.entry.store.literals.now self.entry.store.pairs.now)
-            self.entry.store.text.now self.entry.a self.entry.added.now stamp x values.old (hint_code result) values.new }
+            self.entry.store.text.now self.entry.a self.entry.added.now stamp.byte x values.old (hint_code result) values.new }
         ensures ends { IfSome result (λ outcome. number_of outcome ≡ spent → ⊥) }
     {
         if !self.stands(x) {
@@ -34,7 +35,7 @@ impl Clauses<'_> {
         ) {
             Found::AllFalse => Some(Ok(())),
             Found::Unset(variable, minus) => {
-                values[variable] = stamp + u8::from(!minus);
+                values[variable] = stamp.of(!minus);
                 None
             }
             Found::Other => Some(Err(Refusal::NotUnit)),
@@ -43,11 +44,11 @@ impl Clauses<'_> {
 
     // Hints, read while their form is, from the space before the first on; none where they have not the form. After the one that ends
     // them, the others are read for their form alone.
-    pub(crate) fn hints(self, at: usize, values: &mut [u8], stamp: u8) -> Option<HintsRead>
-        requires values_len { (length values.old ≡ self.store.variables + 1) × (stamp ≤ last_stamp) }
-        requires during_line { DuringLine stamp values.old }
+    pub(crate) fn hints(self, at: usize, values: &mut [u8], stamp: Stamp) -> Option<HintsRead>
+        requires values_len { length values.old ≡ self.store.variables + 1 }
+        requires during_line { DuringLine stamp.byte values.old }
         ensures read { AfterHints (formula_in self.entry.store.count self.entry.store.literals.now self.entry.store.pairs.now)
-            self.entry.store.text.now at self.entry.a self.entry.added.now stamp values.old (hints_read result) values.new }
+            self.entry.store.text.now at self.entry.a self.entry.added.now stamp.byte values.old (hints_read result) values.new }
         ensures there { IfSome result (λ r. r.next ≡ 0 → ⊥) }
     {
         let mut p = at;

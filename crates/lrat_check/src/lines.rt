@@ -3,17 +3,19 @@
 // hints.rt.
 //
 // The added pairs and the values are lent by a `&mut` of their own beside what only reads. A struct of both would be no plainer: what
-// changes the pairs does not change the values.
+// changes the pairs does not change the values. Nor would one of the values and the stamp: one thing holds of them before a line's
+// literals and another after, so that no ghost field says either. The number of added pairs is lent too, so that refusals go up by `?`.
 ghost use Rattle.std.specs.Prelude.{◌≡◌, ◌+◌, ◌≤◌, length};
 ghost use Rattle.lrat.specs.Words.{ids_at, deletion_at, addition_at};
-ghost use Rattle.lrat.specs.Bytes.{last_stamp, DuringLine, BeforeLine, zeros, formula_in};
+ghost use Rattle.lrat.specs.Bytes.{DuringLine, BeforeLine, zeros, formula_in};
 ghost use Rattle.lrat.specs.State.{delete_all, AddedInText};
 ghost use Rattle.lrat.specs.Check.{step_of, line_step, lines_of};
 ghost use Rattle.lrat.specs.Results.{Leaves, Deletes, Ends};
 
 use crate::clause::{Clauses, Store};
+use crate::stamp::Stamp;
 use crate::{literals, words};
-use lrat::{Checked, Step};
+use lrat::Step;
 use refusal::Refusal;
 
 // Deletes the clauses of the ids after the place at, left to right, up to one that does not stand.
@@ -45,9 +47,7 @@ fn deletion(store: Store, at: usize, a: usize, added: &mut [u32]) -> Result<Opti
     ensures { Leaves (step_of (formula_in store.entry.count store.entry.literals.now store.entry.pairs.now)
         store.entry.text.now store.entry.variables a added.old (deletion_at store.entry.text.now at)) result added.new }
 {
-    let Some(newline) = words::end(store.text, at) else {
-        return Err(Refusal::LineForm);
-    };
+    let newline = words::end(store.text, at).ok_or(Refusal::LineForm)?;
     if numeral::byte(store.text, newline) != b'\n' {
         return Err(Refusal::LineForm);
     }
@@ -66,21 +66,21 @@ fn addition(
     a: usize,
     added: &mut [u32],
     values: &mut [u8],
-    stamp: u8,
+    stamp: Stamp,
 ) -> Result<Option<Step>, Refusal>
-    requires values_len { (length values.old ≡ store.variables + 1) × (stamp ≤ last_stamp) }
+    requires values_len { length values.old ≡ store.variables + 1 }
     requires additions { AddedInText store.text.now a added.old (store.variables + 1) }
-    requires before_line { BeforeLine stamp values.old }
+    requires before_line { BeforeLine stamp.byte values.old }
     ensures step { Leaves (step_of (formula_in store.entry.count store.entry.literals.now store.entry.pairs.now)
         store.entry.text.now store.entry.variables a added.old (addition_at store.entry.text.now id at)) result added.new }
-    ensures bytes { DuringLine stamp values.new }
+    ensures bytes { DuringLine stamp.byte values.new }
 {
-    let Some(literals) = literals::set_false(store.text, at, store.variables, values, stamp) else {
-        return Err(Refusal::LineForm);
-    };
-    let Some(hints) = (Clauses { store, added, a }).hints(literals.next, values, stamp) else {
-        return Err(Refusal::LineForm);
-    };
+    let literals = literals::set_false(store.text, at, store.variables, values, stamp).ok_or(
+        Refusal::LineForm,
+    )?;
+    let hints = Clauses { store, added, a }
+        .hints(literals.next, values, stamp)
+        .ok_or(Refusal::LineForm)?;
     let newline = hints.next;
     let outcome = hints.outcome;
     if numeral::byte(store.text, newline) != b'\n' {
@@ -116,18 +116,16 @@ fn line(
     a: usize,
     added: &mut [u32],
     values: &mut [u8],
-    stamp: u8,
+    stamp: Stamp,
 ) -> Result<Option<Step>, Refusal>
-    requires values_len { (length values.old ≡ store.variables + 1) × (stamp ≤ last_stamp) }
+    requires values_len { length values.old ≡ store.variables + 1 }
     requires additions { AddedInText store.text.now a added.old (store.variables + 1) }
-    requires before_line { BeforeLine stamp values.old }
+    requires before_line { BeforeLine stamp.byte values.old }
     ensures step { Leaves (line_step (formula_in store.entry.count store.entry.literals.now store.entry.pairs.now)
         store.entry.text.now store.entry.variables a added.old at) result added.new }
-    ensures bytes { DuringLine stamp values.new }
+    ensures bytes { DuringLine stamp.byte values.new }
 {
-    let Some(id) = numeral::number(store.text, at, false) else {
-        return Err(Refusal::LineForm);
-    };
+    let id = numeral::number(store.text, at, false).ok_or(Refusal::LineForm)?;
     let next = id.next;
     if numeral::byte(store.text, next) != b' ' {
         return Err(Refusal::LineForm);
@@ -138,36 +136,29 @@ fn line(
     addition(store, id.value, next, a, added, values, stamp)
 }
 
-// The lines of the text from the first on, over values that are cleared.
-fn follow(store: Store, added: &mut [u32], values: &mut [u8]) -> Checked
+// The lines of the text from the first on, over values that are cleared, and the number of pairs that they add.
+fn follow(
+    store: Store,
+    added: &mut [u32],
+    values: &mut [u8],
+    count: &mut u32,
+) -> Result<(), Refusal>
     requires values_len { length values.old ≡ store.variables + 1 }
     requires before_line { BeforeLine 1 values.old }
+    requires none_added { count.old ≡ 0 }
     ensures { Ends (lines_of (formula_in store.entry.count store.entry.literals.now store.entry.pairs.now)
-        store.entry.text.now store.entry.variables added.old) result added.new }
+        store.entry.text.now store.entry.variables added.old) (record { outcome = result; count = count.new }) added.new }
 {
     let mut at = 0;
-    let mut a = 0;
     let mut stamp = 1;
     // no counted index: a line says where the next one starts
     while at < store.text.len() {
-        match line(store, at, a, added, values, stamp) {
-            Ok(Some(step)) => {
-                a = step.a;
-                at = step.next;
-            }
-            Ok(None) => {
-                return Checked {
-                    outcome: Ok(()),
-                    count: a as u32,
-                };
-            }
-            Err(refusal) => {
-                return Checked {
-                    outcome: Err(refusal),
-                    count: a as u32,
-                };
-            }
-        }
+        let during = Stamp { byte: stamp };
+        let Some(step) = line(store, at, *count as usize, added, values, during)? else {
+            return Ok(());
+        };
+        *count = step.a as u32;
+        at = step.next;
         if lrat::LAST_STAMP < stamp + 2 {
             values.fill(0);
             stamp = 1;
@@ -175,21 +166,26 @@ fn follow(store: Store, added: &mut [u32], values: &mut [u8]) -> Checked
             stamp += 2;
         }
     }
-    Checked {
-        outcome: Err(Refusal::TextEnds),
-        count: a as u32,
-    }
+    Err(Refusal::TextEnds)
 }
 
-// The lines of the text: what they end in, and the number of added pairs. The values are cleared before and after.
-pub(crate) fn lines(store: Store, added: &mut [u32], values: &mut [u8]) -> Checked
+// The lines of the text: what they end in, and the number of added pairs. The values are cleared before and after. Not inlined, so
+// that the loops over literals have the registers for themselves: 2 % fewer instructions for a check.
+#[inline(never)]
+pub(crate) fn lines(
+    store: Store,
+    added: &mut [u32],
+    values: &mut [u8],
+    count: &mut u32,
+) -> Result<(), Refusal>
     requires values_len { length values.old ≡ store.variables + 1 }
+    requires none_added { count.old ≡ 0 }
     ensures lines { Ends (lines_of (formula_in store.entry.count store.entry.literals.now store.entry.pairs.now)
-        store.entry.text.now store.entry.variables added.old) result added.new }
+        store.entry.text.now store.entry.variables added.old) (record { outcome = result; count = count.new }) added.new }
     ensures bytes { values.new ≡ zeros (store.entry.variables + 1) }
 {
     values.fill(0);
-    let checked = follow(store, added, values);
+    let outcome = follow(store, added, values, count);
     values.fill(0);
-    checked
+    outcome
 }

@@ -1,9 +1,10 @@
 // The literals of a line, set false while their form is read. Decided here: whether one is outside ±V or a variable stands twice,
 // which is 18.
-ghost use Rattle.std.specs.Prelude.{◌≡◌, ◌+◌, ◌≤◌, length, IfSome};
-ghost use Rattle.lrat.specs.Bytes.{last_stamp, BeforeLine, AfterLiterals};
+ghost use Rattle.std.specs.Prelude.{◌≡◌, ◌+◌, length, IfSome};
+ghost use Rattle.lrat.specs.Bytes.{BeforeLine, AfterLiterals};
 ghost use Rattle.lrat.specs.Results.{literals_read};
 
+use crate::stamp::Stamp;
 use lrat::LiteralsRead;
 
 // Sets each literal of a line false while their form is read, from the space before the first on; none where they have not the form.
@@ -14,11 +15,11 @@ pub(crate) fn set_false(
     at: usize,
     variables: usize,
     values: &mut [u8],
-    stamp: u8,
+    stamp: Stamp,
 ) -> Option<LiteralsRead>
-    requires values_len { (length values.old ≡ variables + 1) × (stamp ≤ last_stamp) }
-    requires before_line { BeforeLine stamp values.old }
-    ensures read { AfterLiterals stamp variables text.now at (literals_read result) values.new }
+    requires values_len { length values.old ≡ variables + 1 }
+    requires before_line { BeforeLine stamp.byte values.old }
+    ensures read { AfterLiterals stamp.byte variables text.now at (literals_read result) values.new }
     ensures there { IfSome result (λ r. r.next ≡ 0 → ⊥) }
 {
     let mut end = at;
@@ -33,10 +34,10 @@ pub(crate) fn set_false(
         if literal.value == 0 {
             return Some(LiteralsRead { end, next, good });
         }
-        if variables < literal.value || stamp <= values[literal.value] {
+        if variables < literal.value || stamp.byte <= values[literal.value] {
             good = false;
         } else {
-            values[literal.value] = stamp + u8::from(literal.minus);
+            values[literal.value] = stamp.of(literal.minus);
         }
         end = next;
     }

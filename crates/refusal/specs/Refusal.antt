@@ -4,6 +4,7 @@ use Rattle.refusal.specs.declared.Refusal.{Refusal}
 use Rattle.refusal.specs.declared.Refusal.TheVariants.{RequestLine, Inputs, Table, Switches, SeriesBound, BufferShort, LiteralsShort, PairsShort, AnswerLine, AnswerVariable, AnswerIncomplete, AnswerClauses, NetworkForm, ValuesShort, TextLong, LineForm, LineId, LineLiteral, NotStanding, NotUnit, HintsSpent, AddedShort, TextEnds, RowTwice}
 pub mod Laws
 
+-- the number of a refusal in documents 01 and 02
 abbrev pub number : Refusal → ℕ
 number RequestLine = 1
 number Inputs = 2

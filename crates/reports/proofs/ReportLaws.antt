@@ -10,8 +10,8 @@ use Rattle.lrat_check.specs.Refutation.{Lent}
 use Rattle.reports.specs.Reports.{refused_text}
 use Rattle.settle.specs.declared.Settlement.{Settlement}
 use Rattle.settle.specs.declared.Verdict.{Verdict}
-use Rattle.settle.specs.Settle.{settlement, settle_leaves}
-use Rattle.reports.specs.Report.{verdict_text, read_text, report_text, read_leaves, report_leaves}
+use Rattle.settle.specs.Settle.{Settling, settlement, settle_leaves}
+use Rattle.reports.specs.Report.{verdict_text, settled_text, read_text, report_text, read_leaves, report_leaves}
 
 module _ (request answer refutation : List ℕ) (s : Lent) where
   -- a request that is refused
@@ -20,12 +20,20 @@ module _ (request answer refutation : List ℕ) (s : Lent) where
   report_refused f e = ap (λ (r : Reading). read_text r answer refutation s) e
 
   -- a request that is settled
-  pub report_settled : (q : Request) → Ok q ≡ request_of request → (x : Settlement) → x ≡ settlement q answer refutation s
-      → (v : Verdict) → x.verdict ≡ v → verdict_text q.r x.network v ≡ report_text request answer refutation s
+  report_answered : (q : Request) → Ok q ≡ request_of request → (x : Settling) → x ≡ settlement q answer refutation s
+      → settled_text q.r x ≡ report_text request answer refutation s
   unfolding report_text
-  report_settled q e x f v g =
-      ap (verdict_text q.r x.network) (sym g) ∙ ap (λ (y : Settlement). verdict_text q.r y.network y.verdict) f
-      ∙ ap (λ (r : Reading). read_text r answer refutation s) e
+  report_answered q e x f = ap (settled_text q.r) f ∙ ap (λ (r : Reading). read_text r answer refutation s) e
+
+  -- to a refusal
+  pub report_unsettled : (q : Request) → Ok q ≡ request_of request → (f : Refusal) → Err f ≡ settlement q answer refutation s
+      → refused_text (number f) ≡ report_text request answer refutation s
+  report_unsettled q e f g = report_answered q e (Err f) g
+
+  -- to a verdict
+  pub report_settled : (q : Request) → Ok q ≡ request_of request → (x : Settlement) → Ok x ≡ settlement q answer refutation s
+      → (v : Verdict) → x.verdict ≡ v → verdict_text q.r x.network v ≡ report_text request answer refutation s
+  report_settled q e x f v g = ap (verdict_text q.r x.network) (sym g) ∙ report_answered q e (Ok x) f
 
   -- the slices, likewise
   pub leaves_refused : (f : Refusal) → Err f ≡ request_of request → s ≡ report_leaves request answer refutation s

@@ -6,22 +6,26 @@ use Rattle.request.specs.Line.{Reading, request_of}
 use Rattle.lrat_check.specs.Refutation.{Lent}
 use Rattle.reports.specs.Reports.{refused_text, fails_text, works_text, least_text}
 use Rattle.settle.specs.declared.Verdict.{Verdict}
-use Rattle.settle.specs.declared.Verdict.TheVariants.{Least, Works, Fails, Refused}
-use Rattle.settle.specs.Settle.{settlement, settle_leaves}
+use Rattle.settle.specs.declared.Verdict.TheVariants.{Least, Works, Fails}
+use Rattle.settle.specs.Settle.{Settling, settlement, settle_leaves}
 use Rattle.network.specs.declared.Network.{Network}
 use Rattle.network.specs.Least.{LeastFor}
 
 -- "It prints \"least k\", \"works k number\", \"fails k row\" or \"refused number\"; after the first two, a line \"s v a b\" per switch ..
--- and \"sink c\""
+-- and \"sink c\"": of a verdict,
 abbrev pub verdict_text : ℕ → Network → Verdict → List ℕ
 verdict_text k w Least = least_text k w
 verdict_text k w (Works e) = works_text k (number e) w
 verdict_text k w (Fails row) = fails_text k row
-verdict_text k w (Refused e) = refused_text (number e)
+
+-- and of what settling answers
+abbrev pub settled_text : ℕ → Settling → List ℕ
+settled_text k (Ok x) = verdict_text k x.network x.verdict
+settled_text k (Err e) = refused_text (number e)
 
 -- a request that is read is settled; one that is refused is "refused number" too
 abbrev pub read_text : Reading → List ℕ → List ℕ → Lent → List ℕ
-read_text (Ok q) answer refutation s = verdict_text q.r (settlement q answer refutation s).network (settlement q answer refutation s).verdict
+read_text (Ok q) answer refutation s = settled_text q.r (settlement q answer refutation s)
 read_text (Err e) answer refutation s = refused_text (number e)
 
 unfoldable pub report_text : List ℕ → List ℕ → List ℕ → Lent → List ℕ

@@ -1,4 +1,5 @@
-// A text by value. It has an array, and how many of its bytes count, since a library of this project has no heap.
+// A text by value. It has an array, and how many of its bytes count, since a library of this project has no heap. The clause file's
+// writer is another: one for both would be public and ask for room, and no public function of this project asks anything.
 ghost use Rattle.std.specs.Prelude.{◌≤◌};
 
 use network::Network;

@@ -29,14 +29,13 @@ pub fn report(
 {
     match request_read::read_request(request) {
         Err(refusal) => texts::refused_text(refusal),
-        Ok(q) => {
-            let settled = settle::settle(q, answer, refutation, literals, pairs, added, values);
-            match settled.verdict {
+        Ok(q) => match settle::settle(q, answer, refutation, literals, pairs, added, values) {
+            Err(refusal) => texts::refused_text(refusal),
+            Ok(settled) => match settled.verdict {
                 Verdict::Least => texts::least_text(q.r, settled.network),
                 Verdict::Works(refusal) => texts::works_text(q.r, refusal, settled.network),
                 Verdict::Fails(row) => texts::fails_text(q.r, row),
-                Verdict::Refused(refusal) => texts::refused_text(refusal),
-            }
-        }
+            },
+        },
     }
 }

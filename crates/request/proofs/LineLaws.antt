@@ -17,7 +17,7 @@ use Rattle.refusal.specs.Refusal.{numbered}
 use Rattle.refusal.specs.Refusal.Laws.{numbered_number, unless-number_of}
 use Rattle.request.specs.Line.{Reading, number_of, values_of, digit, table_character, field_character, leading, run_end, ended_by, single, row_character, is_table, marked, numbers_refusal, request_at, end1, end2, end3, end4, line_form, request_number, request_in, request_values, reading_by, request_of, numbers_of, Run, Bytes, Ends}
 use Rattle.request.specs.Numbers.{inputs_most, switches_most, series_most, rows_most, bit, asked, Good}
-use Rattle.request.proofs.NumbersLaws.{bit_half, bit_low}
+use Rattle.request.proofs.NumbersLaws.{bit_half, bit_low, within}
 
 -- a digit's byte is at least 48
 pub digit_least : (b : ℕ) → T (digit b) → 48 ≤ b
@@ -358,19 +358,16 @@ marked_once a b d s from k j h e =
     marked_bit b s from k j h ∙ ne_eqb (get_or s (from + j) 0) b (λ g. d (sym f ∙ g))
 
 -- a number of a request's refusals is one of the documents'
-cond_low : (t : Bool) (k x : ℕ) → k ≤ 24 → x ≤ 24 → cond t k x ≤ 24
-cond_low true k x h l = h
-cond_low false k x h l = l
 
 numbers_low_24 : (s : List ℕ) (a b c d : ℕ) → numbers_refusal s a b c d ≤ 24
 unfolding numbers_refusal
 numbers_low_24 s a b c d =
-    cond_low _ 2 _ (omega arith)
-    (cond_low _ 3 _ (omega arith) (cond_low _ 4 _ (omega arith) (cond_low _ 5 0 (omega arith) (omega arith))))
+    within _ 2 _ 24 (omega arith)
+    (within _ 3 _ 24 (omega arith) (within _ 4 _ 24 (omega arith) (within _ 5 0 24 (omega arith) (omega arith))))
 
 request_low : (s : List ℕ) → request_number s ≤ 24
 unfolding request_number
-request_low s = cond_low (line_form s) _ 1 (numbers_low_24 s _ _ _ _) (omega arith)
+request_low s = within (line_form s) _ 1 24 (numbers_low_24 s _ _ _ _) (omega arith)
 
 -- the number of a reading is the rule's
 pub number_is : (s : List ℕ) → number_of (request_of s) ≡ request_number s

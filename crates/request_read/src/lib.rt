@@ -3,67 +3,42 @@
 // r and M, in this order.
 #![tactic(auto)]
 
-ghost use Rattle.std.specs.Prelude.{◌≡◌, ◌-◌, ◌≤◌, ◌<◌, length};
+ghost use Rattle.std.specs.Prelude.{◌≡◌, ◌≤◌, ◌<◌, Bool, List, ℕ, IfOk, length};
 ghost use Rattle.request.specs.Numbers.{inputs_most, rows_most};
-ghost use Rattle.request.specs.Line.{number_of, values_of, digit, run_end, ended_by, single, row_character, is_table, marked, request_number, request_values, request_of, numbers_of, Bytes, Ends};
-ghost use Rattle.request_read.specs.Field.{characters, digit_within};
+ghost use Rattle.request.specs.Line.{number_of, values_of, single, row_character, is_table, marked, request_number, request_values, request_of, numbers_of};
+ghost use Rattle.request_read.specs.Field.{field_end, digit_within};
+ghost use Rattle.request_read.specs.Part.{Runs};
 
 use refusal::Refusal;
 use request::{INPUTS, Request, SERIES, SWITCHES};
 
-// The field of a run: the table, or n, r or M.
-#[derive(Clone, Copy)]
-pub enum Field {
-    Table,
-    Number,
-}
-
-impl Field {
-    // Whether a byte may stand in the field: a digit, and in the table "-" too.
-    fn has(self, b: u8) -> bool
-        ensures { result ≡ characters self b }
-    {
-        match self {
-            Field::Table => b.is_ascii_digit() || b == b'-',
-            Field::Number => b.is_ascii_digit(),
-        }
-    }
-}
-
-// The end of the run of such bytes that starts at from.
-fn run_end(text: &[u8], from: usize, field: Field) -> usize
-    ensures { result ≡ run_end (characters field) text.now from }
-{
-    for i in from..text.len() {
-        if !field.has(text[i]) {
-            return i;
-        }
-    }
-    from.max(text.len())
-}
-
-// Whether the run from one place to another is not empty, with the byte b after it.
-fn ended_by(text: &[u8], from: usize, end: usize, b: u8) -> bool
-    ensures { result ≡ ended_by text.now from end b }
-{
-    from < end && end < text.len() && text[end] == b
-}
-
-// The digit that a run of one character is, if it is at most `most`; a higher one and a longer run are refused.
-fn one_digit(
+// The end of the run of bytes that pass a test, from a place on. A run that is empty, or has not the byte `after` behind it, is refused.
+fn field_end<F: Fn(u8) -> bool>(
     text: &[u8],
     from: usize,
-    end: usize,
-    most: u8,
-    refusal: Refusal,
-) -> Result<u8, Refusal>
-    requires { (from < end) × (end ≤ length text.now) × Bytes digit text.now from end × (most < 10) }
-    ensures { result ≡ digit_within (single text.now from end) most refusal }
+    after: u8,
+    test: F,
+) -> Result<usize, Refusal>
+    requires calls { F.IsAlwaysCallable test }
+    requires inside { from ≤ length text.now }
+    ensures end { (p : ℕ → Bool) → ((b : ℕ) (x : Bool) → F.post test b x → x ≡ p b) → result ≡ field_end p text.now from after }
+    ensures run { IfOk result (λ end. (from < end) × (end < length text.now)) }
 {
-    if end - from != 1 {
-        return Err(refusal);
+    match text[from..].iter().position(|b| !test(*b)) {
+        Some(run) if 0 < run && text[from + run] == after => Ok(from + run),
+        _ => Err(Refusal::RequestLine),
     }
-    let digit = text[from] - b'0';
+}
+
+// The digit that a run of one character is, if it is at most `most`; a higher one and a run of another length are refused.
+fn one_digit(run: &[u8], most: u8, refusal: Refusal) -> Result<u8, Refusal>
+    requires { most < 10 }
+    ensures { result ≡ digit_within (single run.now 0 (length run.now)) most refusal }
+{
+    let [b] = run else {
+        return Err(refusal);
+    };
+    let digit = b.saturating_sub(b'0');
     if most < digit {
         Err(refusal)
     } else {
@@ -79,56 +54,42 @@ fn is_row(b: u8) -> bool
 }
 
 // Whether a run is a table of 2^n such characters.
-fn is_table(text: &[u8], from: usize, end: usize, n: u8) -> bool
-    requires { (from ≤ end) × (end ≤ length text.now) × (n ≤ inputs_most) }
-    ensures { result ≡ is_table text.now from end n }
+fn is_table(run: &[u8], n: u8) -> bool
+    requires { n ≤ inputs_most }
+    ensures { result ≡ is_table run.now 0 (length run.now) n }
 {
-    if end - from != 1usize << n {
-        return false;
-    }
-    for i in from..end {
-        if !is_row(text[i]) {
-            return false;
-        }
-    }
-    true
+    run.len() == 1usize << n && run.iter().all(|b| is_row(*b))
 }
 
 // The rows of a run that have the character mark, row 0 the lowest bit.
-fn rows_marked(text: &[u8], from: usize, end: usize, mark: u8) -> u16
-    requires { (from ≤ end) × (end ≤ length text.now) × (end - from ≤ rows_most) }
-    ensures { result ≡ marked mark text.now from (end - from) }
+fn rows_marked(run: &[u8], mark: u8) -> u16
+    requires { length run.now ≤ rows_most }
+    ensures { result ≡ marked mark run.now 0 (length run.now) }
 {
-    let mut rows: u32 = 0;
-    for k in 0..end - from {
-        rows = 2 * rows;
-        if text[end - 1 - k] == mark {
-            rows += 1;
-        }
+    let mut rows = 0;
+    for b in run.iter().rev() {
+        rows = 2 * rows + u16::from(*b == mark);
     }
-    rows as u16
+    rows
 }
 
-// The request whose four runs end at a, b, c and d.
-fn numbers_at(text: &[u8], a: usize, b: usize, c: usize, d: usize) -> Result<Request, Refusal>
-    requires { Ends text.now a b c d }
-    ensures { result ≡ numbers_of text.now a b c d }
+// The request of a line's four runs, or the first refusal of its numbers.
+fn numbers(n: &[u8], table: &[u8], r: &[u8], m: &[u8]) -> Result<Request, Refusal>
+    ensures { (s : List ℕ) (a b c d : ℕ) → Runs s a b c d n.now table.now r.now m.now → result ≡ numbers_of s a b c d }
 {
-    let n = one_digit(text, 0, a, INPUTS, Refusal::Inputs)?;
+    let n = one_digit(n, INPUTS, Refusal::Inputs)?;
     if n < 1 {
         return Err(Refusal::Inputs);
     }
-    if !is_table(text, a + 1, b, n) {
+    if !is_table(table, n) {
         return Err(Refusal::Table);
     }
-    let r = one_digit(text, b + 1, c, SWITCHES, Refusal::Switches)?;
-    let m = one_digit(text, c + 1, d, SERIES, Refusal::SeriesBound)?;
-    let table = rows_marked(text, a + 1, b, b'1');
-    let free = rows_marked(text, a + 1, b, b'-');
+    let r = one_digit(r, SWITCHES, Refusal::Switches)?;
+    let m = one_digit(m, SERIES, Refusal::SeriesBound)?;
     Ok(Request {
         n,
-        table,
-        free,
+        table: rows_marked(table, b'1'),
+        free: rows_marked(table, b'-'),
         r,
         m,
     })
@@ -139,24 +100,17 @@ pub fn read_request(text: &[u8]) -> Result<Request, Refusal>
     ensures number { number_of result ≡ request_number text.now }
     ensures values { values_of result ≡ request_values text.now }
 {
-    let a = run_end(text, 0, Field::Number);
-    if !ended_by(text, 0, a, b' ') {
-        return Err(Refusal::RequestLine);
-    }
-    let b = run_end(text, a + 1, Field::Table);
-    if !ended_by(text, a + 1, b, b' ') {
-        return Err(Refusal::RequestLine);
-    }
-    let c = run_end(text, b + 1, Field::Number);
-    if !ended_by(text, b + 1, c, b' ') {
-        return Err(Refusal::RequestLine);
-    }
-    let d = run_end(text, c + 1, Field::Number);
-    if !ended_by(text, c + 1, d, b'\n') {
-        return Err(Refusal::RequestLine);
-    }
+    let a = field_end(text, 0, b' ', |b| b.is_ascii_digit())?;
+    let b = field_end(text, a + 1, b' ', |b| b.is_ascii_digit() || b == b'-')?;
+    let c = field_end(text, b + 1, b' ', |b| b.is_ascii_digit())?;
+    let d = field_end(text, c + 1, b'\n', |b| b.is_ascii_digit())?;
     if d + 1 != text.len() {
         return Err(Refusal::RequestLine);
     }
-    numbers_at(text, a, b, c, d)
+    numbers(
+        &text[..a],
+        &text[a + 1..b],
+        &text[b + 1..c],
+        &text[c + 1..d],
+    )
 }

@@ -1,6 +1,6 @@
 -- Settling by document 01's numbers and values. Assumes nothing.
 use Rattle.std.specs.Prelude.{◌≡◌, refl, Bool, true, false, List, [], ◌∷◌, ℕ, ◌^◌, eqb, ltb, Some, None, Ok, Err}
-use Rattle.std.proofs.Math.Path.{sym, ap}
+use Rattle.std.proofs.Math.Path.{sym, ap, ap₂}
 use Rattle.std.proofs.Common.{◌∙◌, arith, eq-eqb, ne_eqb}
 use Rattle.std.proofs.Math.Bool.{cond}
 use Rattle.std.proofs.Math.Logic.{⊎_elim}
@@ -16,43 +16,31 @@ use Rattle.answer.proofs.ReadingNumbers.{reading_numbered}
 use Rattle.lrat.specs.Outcome.{Outcome, outcome_number}
 use Rattle.lrat_check.specs.Refutation.{Lent, check_answer}
 use Rattle.lrat_check.specs.Refutation.Laws.{answer_number}
-use Rattle.settle.specs.declared.Settlement.{Settlement}
 use Rattle.settle.specs.declared.Verdict.{Verdict}
-use Rattle.settle.specs.declared.Verdict.TheVariants.{Least, Works, Fails, Refused}
-use Rattle.settle.specs.Settle.{verdict_number, verdict_values, smaller, outcome_verdict, verdict_below, judged, settle_number, values_below, settle_values, settlement}
+use Rattle.settle.specs.declared.Verdict.TheVariants.{Least, Works, Fails}
+use Rattle.settle.specs.Settle.{Settling, verdict_number, said_values, verdict_values, settled_network, smaller, outcome_verdict, verdict_below, judged, settle_number, values_below, settle_values, settlement}
 use Rattle.settle.specs.Settle.Laws.{settles_judged}
 use Rattle.settle.specs.Settle.Exactly.{decoded_rows, refused_verdict}
 
--- the verdict that a refutation leads to
-outcome_zero : (o : Outcome) → verdict_number (outcome_verdict o) ≡ 0
-outcome_zero (Ok x) = refl
-outcome_zero (Err e) = refl
-
+-- the values of the verdict that a refutation leads to
 outcome_values : (k : ℕ) (o : Outcome)
-    → verdict_values k (outcome_verdict o) ≡ cond (eqb (outcome_number o) 0) (0 ∷ k ∷ []) (1 ∷ k ∷ outcome_number o ∷ [])
+    → said_values k (outcome_verdict o) ≡ cond (eqb (outcome_number o) 0) (0 ∷ k ∷ []) (1 ∷ k ∷ outcome_number o ∷ [])
 outcome_values k (Ok x) = refl
 outcome_values k (Err e) = rw (ne_eqb (number e) 0 (number_some e))
 
--- the verdict by the rows of a network
-rows_zero : (b : Bool) (row : ℕ) (v : Verdict) (w : Network) → verdict_number v ≡ 0 → verdict_number (judged (Ok (cond b (Some row) None)) v w).verdict ≡ 0
-rows_zero true row v w e = refl
-rows_zero false row v w e = e
+-- the number and the values by the rows of a network: a verdict is no refusal
+rows_zero : (b : Bool) (row : ℕ) (v : Verdict) (w : Network) → verdict_number (judged (Ok (cond b (Some row) None)) v w) ≡ 0
+rows_zero true row v w = refl
+rows_zero false row v w = refl
 
 rows_values_lem : (b : Bool) (k row : ℕ) (v : Verdict) (w : Network)
-    → verdict_values k (judged (Ok (cond b (Some row) None)) v w).verdict ≡ cond b (2 ∷ k ∷ row ∷ []) (verdict_values k v)
+    → verdict_values k (judged (Ok (cond b (Some row) None)) v w) ≡ cond b (2 ∷ k ∷ row ∷ []) (said_values k v)
 rows_values_lem true k row v w = refl
 rows_values_lem false k row v w = refl
 
--- the verdict where the network does the job
+-- the values where the network does the job
 module _ (q : Request) (refutation : List ℕ) (s : Lent) where
-  below_unrefused : verdict_number (verdict_below q refutation s) ≡ 0
-  unfolding verdict_below
-  below_unrefused =
-      ⊎_elim (λ (z : q.r ≡ 0). rw (eq-eqb q.r 0 z))
-      (λ (d : q.r ≡ 0 → ⊥). rw (ne_eqb q.r 0 d) (outcome_zero (check_answer (smaller q) refutation s).outcome))
-      (eq? q.r 0)
-
-  below_values : verdict_values q.r (verdict_below q refutation s) ≡ values_below q refutation s
+  below_values : said_values q.r (verdict_below q refutation s) ≡ values_below q refutation s
   unfolding verdict_below values_below
   below_values =
       ⊎_elim (λ (z : q.r ≡ 0). rw (eq-eqb q.r 0 z))
@@ -67,25 +55,27 @@ module _ (q : Request) (answer refutation : List ℕ) (s : Lent) where
   abbrev read : Network
   read = (reading_of q answer).network
 
-  -- the verdict of an answer that is taken, by the rows of its network
+  -- what settling says of an answer that is taken, by the rows of its network
   by_rows : (reading_of q answer).refusal ≡ 0
-      → (judged (Ok (rows_answer q read)) (verdict_below q refutation s) read).verdict ≡ (settlement q answer refutation s).verdict
-  by_rows z = ap (λ (x : Settlement). x.verdict) (settles_judged q answer refutation s z (Ok (rows_answer q read)) (decoded_rows q answer z)).says
+      → judged (Ok (rows_answer q read)) (verdict_below q refutation s) read ≡ settlement q answer refutation s
+  by_rows z = (settles_judged q answer refutation s z (Ok (rows_answer q read)) (decoded_rows q answer z)).says
 
-  -- the number of the verdict is the rule's
-  pub settle_number_lem : verdict_number (settlement q answer refutation s).verdict ≡ settle_number q answer
+  -- the number of settling is the rule's
+  pub settle_number_lem : verdict_number (settlement q answer refutation s) ≡ settle_number q answer
   unfolding settle_number rows_answer
   settle_number_lem =
       ⊎_elim
       (λ (z : (reading_of q answer).refusal ≡ 0).
       ap verdict_number (sym (by_rows z))
-      ∙ rows_zero (ltb (first_wrong q read) (2 ^ q.n)) (first_wrong q read) (verdict_below q refutation s) read (below_unrefused q refutation s)
+      ∙ rows_zero (ltb (first_wrong q read) (2 ^ q.n)) (first_wrong q read) (verdict_below q refutation s) read
       ∙ sym z)
-      (λ (d : (reading_of q answer).refusal ≡ 0 → ⊥). ap verdict_number (sym (refused_verdict q answer refutation s d)) ∙ numbered_back (reading_of q answer).refusal d (reading_numbered q answer))
+      (λ (d : (reading_of q answer).refusal ≡ 0 → ⊥).
+      ap verdict_number (sym (refused_verdict q answer refutation s d))
+      ∙ numbered_back (reading_of q answer).refusal d (reading_numbered q answer))
       (eq? (reading_of q answer).refusal 0)
 
   -- and so are the values
-  pub settle_values_lem : verdict_values q.r (settlement q answer refutation s).verdict ≡ settle_values q answer refutation s
+  pub settle_values_lem : verdict_values q.r (settlement q answer refutation s) ≡ settle_values q answer refutation s
   unfolding settle_number settle_values rows_answer
   settle_values_lem =
       ⊎_elim
@@ -102,21 +92,23 @@ module _ (q : Request) (answer refutation : List ℕ) (s : Lent) where
 numbers_differ : (x y : Refusal) → number x ≡ number y → x ≡ y
 numbers_differ x y e = sym (numbered_number x) ∙ ap numbered e ∙ numbered_number y
 
--- no two different verdicts have equal number and values
-pub verdicts_differ : (k : ℕ) (x y : Verdict) → verdict_number x ≡ verdict_number y → verdict_values k x ≡ verdict_values k y → x ≡ y
-verdicts_differ k Least Least e f = refl
-verdicts_differ k Least (Works y) e f = absurd (let z : ◌≡◌ {A = ℕ} 0 1 = cc in omega arith)
-verdicts_differ k Least (Fails y) e f = absurd (let z : ◌≡◌ {A = ℕ} 0 2 = cc in omega arith)
-verdicts_differ k Least (Refused y) e f = absurd (let z : ◌≡◌ {A = ℕ} 0 3 = cc in omega arith)
-verdicts_differ k (Works x) Least e f = absurd (let z : ◌≡◌ {A = ℕ} 1 0 = cc in omega arith)
-verdicts_differ k (Works x) (Works y) e f = let z : number x ≡ number y = cc in ap Works (numbers_differ x y z)
-verdicts_differ k (Works x) (Fails y) e f = absurd (let z : ◌≡◌ {A = ℕ} 1 2 = cc in omega arith)
-verdicts_differ k (Works x) (Refused y) e f = absurd (let z : ◌≡◌ {A = ℕ} 1 3 = cc in omega arith)
-verdicts_differ k (Fails x) Least e f = absurd (let z : ◌≡◌ {A = ℕ} 2 0 = cc in omega arith)
-verdicts_differ k (Fails x) (Works y) e f = absurd (let z : ◌≡◌ {A = ℕ} 2 1 = cc in omega arith)
-verdicts_differ k (Fails x) (Fails y) e f = cc
-verdicts_differ k (Fails x) (Refused y) e f = absurd (let z : ◌≡◌ {A = ℕ} 2 3 = cc in omega arith)
-verdicts_differ k (Refused x) Least e f = absurd (let z : ◌≡◌ {A = ℕ} 3 0 = cc in omega arith)
-verdicts_differ k (Refused x) (Works y) e f = absurd (let z : ◌≡◌ {A = ℕ} 3 1 = cc in omega arith)
-verdicts_differ k (Refused x) (Fails y) e f = absurd (let z : ◌≡◌ {A = ℕ} 3 2 = cc in omega arith)
-verdicts_differ k (Refused x) (Refused y) e f = ap Refused (numbers_differ x y e)
+-- no two different verdicts have equal values
+pub said_differ : (k : ℕ) (x y : Verdict) → said_values k x ≡ said_values k y → x ≡ y
+said_differ k Least Least f = refl
+said_differ k Least (Works y) f = absurd (let z : ◌≡◌ {A = ℕ} 0 1 = cc in omega arith)
+said_differ k Least (Fails y) f = absurd (let z : ◌≡◌ {A = ℕ} 0 2 = cc in omega arith)
+said_differ k (Works x) Least f = absurd (let z : ◌≡◌ {A = ℕ} 1 0 = cc in omega arith)
+said_differ k (Works x) (Works y) f = let z : number x ≡ number y = cc in ap Works (numbers_differ x y z)
+said_differ k (Works x) (Fails y) f = absurd (let z : ◌≡◌ {A = ℕ} 1 2 = cc in omega arith)
+said_differ k (Fails x) Least f = absurd (let z : ◌≡◌ {A = ℕ} 2 0 = cc in omega arith)
+said_differ k (Fails x) (Works y) f = absurd (let z : ◌≡◌ {A = ℕ} 2 1 = cc in omega arith)
+said_differ k (Fails x) (Fails y) f = cc
+
+-- nothing different that settling answers has equal number, values and network
+pub verdicts_differ : (k : ℕ) (x y : Settling) → verdict_number x ≡ verdict_number y → verdict_values k x ≡ verdict_values k y
+    → settled_network x ≡ settled_network y → x ≡ y
+verdicts_differ k (Ok x) (Ok y) e f g =
+    ap₂ (λ (v : Verdict) (w : Network). Ok (record { verdict = v; network = w })) (said_differ k x.verdict y.verdict f) g
+verdicts_differ k (Ok x) (Err y) e f g = absurd (number_some y (sym e))
+verdicts_differ k (Err x) (Ok y) e f g = absurd (number_some x e)
+verdicts_differ k (Err x) (Err y) e f g = ap Err (numbers_differ x y e)

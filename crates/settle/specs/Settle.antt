@@ -1,6 +1,6 @@
 -- What settling says, and what it leaves in the slices that it was lent (document 01, "Settling takes a request with r = k, an answer,
 -- a refutation for k−1"). Assumes nothing.
-use Rattle.std.specs.Prelude.{cond, List, [], ◌∷◌, ℕ, ◌-◌, ◌^◌, eqb, ltb, Option, Some, None, Result, Ok, Err}
+use Rattle.std.specs.Prelude.{◌≡◌, cond, List, [], ◌∷◌, ℕ, ◌-◌, ◌^◌, eqb, ltb, Option, Some, None, Result, Ok, Err, IsOkAnd}
 use Rattle.request.specs.declared.Request.{Request}
 use Rattle.request.specs.Numbers.{with_switches}
 use Rattle.network.specs.declared.Network.{Network}
@@ -13,25 +13,40 @@ use Rattle.lrat.specs.Outcome.{Outcome}
 use Rattle.lrat_check.specs.Refutation.{Lent, check_number, check_answer, check_leaves}
 use Rattle.settle.specs.declared.Settlement.{Settlement}
 use Rattle.settle.specs.declared.Verdict.{Verdict}
-use Rattle.settle.specs.declared.Verdict.TheVariants.{Least, Works, Fails, Refused}
+use Rattle.settle.specs.declared.Verdict.TheVariants.{Least, Works, Fails}
 pub mod Laws
 pub mod Exactly
 pub mod Meaning
 
--- document 01's number of a verdict, 0 where it is not a refusal
-abbrev pub verdict_number : Verdict → ℕ
-verdict_number Least = 0
-verdict_number (Works e) = 0
-verdict_number (Fails row) = 0
-verdict_number (Refused e) = number e
+-- the values of a verdict for a request with r = k: which of the three it is, in the order "least k", "works k number", "fails k row",
+-- then k, and the number or the row
+abbrev pub said_values : ℕ → Verdict → List ℕ
+said_values k Least = 0 ∷ k ∷ []
+said_values k (Works e) = 1 ∷ k ∷ number e ∷ []
+said_values k (Fails row) = 2 ∷ k ∷ row ∷ []
 
--- and its values for a request with r = k: which of the four it is, in the order "least k", "works k number", "fails k row",
--- "refused number", then k, and the number or the row
-abbrev pub verdict_values : ℕ → Verdict → List ℕ
-verdict_values k Least = 0 ∷ k ∷ []
-verdict_values k (Works e) = 1 ∷ k ∷ number e ∷ []
-verdict_values k (Fails row) = 2 ∷ k ∷ row ∷ []
-verdict_values k (Refused e) = 3 ∷ []
+-- what settling answers: a verdict with the network that it is of, or a refusal
+abbrev pub Settling : Type 0
+Settling = Result Settlement Refusal
+
+-- document 01's number of it, 0 where it is not a refusal
+abbrev pub verdict_number : Settling → ℕ
+verdict_number (Ok x) = 0
+verdict_number (Err e) = number e
+
+-- and its values for a request with r = k: those of the verdict; "refused number" comes after the three
+abbrev pub verdict_values : ℕ → Settling → List ℕ
+verdict_values k (Ok x) = said_values k x.verdict
+verdict_values k (Err e) = 3 ∷ []
+
+-- "The decoded network comes with each verdict, the network of zeros with a refusal"
+abbrev pub settled_network : Settling → Network
+settled_network (Ok x) = x.network
+settled_network (Err e) = zeros
+
+-- settling says "least"
+abbrev pub IsLeast : Settling → Type 0
+IsLeast r = IsOkAnd r (λ x. x.verdict ≡ Least)
 
 -- the request that the refutation is for: r is k−1
 abbrev pub smaller : Request → Request
@@ -46,18 +61,14 @@ outcome_verdict (Err e) = Works e
 unfoldable pub verdict_below : Request → List ℕ → Lent → Verdict
 verdict_below q refutation s = cond (eqb q.r 0) Least (outcome_verdict (check_answer (smaller q) refutation s).outcome)
 
--- "the network of zeros with a refusal"
-abbrev pub refused_with : Refusal → Settlement
-refused_with e = record { verdict = Refused e; network = zeros }
-
 -- what the check of the decoded network w leads to, with the verdict v where it does the job: "\"fails\" with the row; then ..".
--- "The decoded network comes with each verdict". The check refuses no decoded network: never-refused, in Exactly
-abbrev pub judged : Checked → Verdict → Network → Settlement
-judged (Ok None) v w = record { verdict = v; network = w }
-judged (Ok (Some row)) v w = record { verdict = Fails row; network = w }
-judged (Err e) v w = refused_with e
+-- "The decoded network comes with each verdict". The check refuses no decoded network: decoded_rows, in Exactly
+abbrev pub judged : Checked → Verdict → Network → Settling
+judged (Ok None) v w = Ok (record { verdict = v; network = w })
+judged (Ok (Some row)) v w = Ok (record { verdict = Fails row; network = w })
+judged (Err e) v w = Err e
 
--- settling in document 01's numbers: "the answer's refusals". The network check adds none: never-refused, in Exactly
+-- settling in document 01's numbers: "the answer's refusals". The network check adds none: decoded_rows, in Exactly
 unfoldable pub settle_number : Request → List ℕ → ℕ
 settle_number q answer = (reading_of q answer).refusal
 
@@ -78,11 +89,11 @@ settle_values q answer refutation s =
 
 -- the same as an answer of the program: "the answer's refusals; \"fails\" with the row; then, for k above 0, \"works\" with the refutation's number; else
 -- \"least\""
-unfoldable pub settlement : Request → List ℕ → List ℕ → Lent → Settlement
+unfoldable pub settlement : Request → List ℕ → List ℕ → Lent → Settling
 settlement q answer refutation s =
     cond (eqb (reading_of q answer).refusal 0)
     (judged (checked_of q (reading_of q answer).network) (verdict_below q refutation s) (reading_of q answer).network)
-    (refused_with (numbered (reading_of q answer).refusal))
+    (Err (numbered (reading_of q answer).refusal))
 
 -- the slices s where the network does the job: "At k = 0 no refutation is read and no work slice touched"; else as the check of the
 -- refutation leaves them

@@ -5,45 +5,30 @@
 // one switch fewer. A network of fewer switches than that needs no refutation of its own: a dangling switch may be added to it.
 #![tactic(auto)]
 
-ghost use Rattle.std.specs.Prelude.{◌≡◌, ◌<◌};
+ghost use Rattle.std.specs.Prelude.{◌≡◌, ◌<◌, IfOk};
 ghost use Rattle.lrat_check.specs.Refutation.{lent};
 ghost use Rattle.network.specs.Least.{LeastFor};
-ghost use Rattle.settle.specs.Settle.{verdict_number, verdict_values, smaller, outcome_verdict, refused_with, settle_number, settle_values, settlement, settle_leaves};
+ghost use Rattle.settle.specs.Settle.{verdict_number, verdict_values, smaller, outcome_verdict, settle_number, settle_values, settlement, settle_leaves};
 ghost use Rattle.settle.specs.declared.Verdict.TheVariants.{Least};
 
 use network::Network;
 use refusal::Refusal;
 use request::Request;
 
-// What settling says: k is the least number of switches; the network works, with the refusal of the refutation; it fails, with its
-// lowest wrong row; or a refusal.
+// What settling says: k is the least number of switches; the network works, with the refusal of the refutation; or it fails, with its
+// lowest wrong row.
 #[derive(Clone, Copy, Debug, PartialEq, Eq)]
 pub enum Verdict {
     Least,
     Works(Refusal),
     Fails(u8),
-    Refused(Refusal),
 }
 
-// The verdict, and the network that the answer describes, or the network of zeros with a refusal.
+// The verdict, and the network that the answer describes.
 #[derive(Clone, Copy, Debug, PartialEq, Eq)]
 pub struct Settlement {
     pub verdict: Verdict,
     pub network: Network,
-}
-
-// A verdict with the network that the answer describes.
-fn with_network(verdict: Verdict, network: Network) -> Settlement
-    ensures { result ≡ record { verdict = verdict; network = network } }
-{
-    Settlement { verdict, network }
-}
-
-// A refused settling.
-fn refused(refusal: Refusal) -> Settlement
-    ensures { result ≡ refused_with refusal }
-{
-    with_network(Verdict::Refused(refusal), network::value::zero_network())
 }
 
 // The request for k-1 switches.
@@ -74,24 +59,18 @@ pub fn settle(
     pairs: &mut [u32],
     added: &mut [u32],
     values: &mut [u8],
-) -> Settlement
+) -> Result<Settlement, Refusal>
     ensures settled { result ≡ settlement q answer.now refutation.now (lent literals.old pairs.old added.old values.old) }
     ensures slices { lent literals.new pairs.new added.new values.new ≡ settle_leaves q answer.now refutation.now (lent literals.old pairs.old added.old values.old) }
-    ensures least { result.verdict ≡ Least → LeastFor q result.network }
-    ensures number { verdict_number result.verdict ≡ settle_number q answer.now }
-    ensures values { verdict_values q.r result.verdict ≡ settle_values q answer.now refutation.now (lent literals.old pairs.old added.old values.old) }
+    ensures least { IfOk result (λ x. x.verdict ≡ Least → LeastFor q x.network) }
+    ensures number { verdict_number result ≡ settle_number q answer.now }
+    ensures values { verdict_values q.r result ≡ settle_values q answer.now refutation.now (lent literals.old pairs.old added.old values.old) }
 {
-    let decoded = match answer_read::read::read_answer(q, answer) {
-        Ok(network) => network,
-        Err(refusal) => return refused(refusal),
-    };
-    match network_check::check_network(q, decoded) {
-        Err(refusal) => refused(refusal),
-        Ok(Some(row)) => with_network(Verdict::Fails(row), decoded),
-        Ok(None) => {
-            if q.r == 0 {
-                return with_network(Verdict::Least, decoded);
-            }
+    let network = answer_read::read::read_answer(q, answer)?;
+    let verdict = match network_check::check_network(q, network)? {
+        Some(row) => Verdict::Fails(row),
+        None if q.r == 0 => Verdict::Least,
+        None => {
             let below = lrat_check::check::check(
                 one_fewer(q),
                 refutation,
@@ -100,7 +79,8 @@ pub fn settle(
                 added,
                 values,
             );
-            with_network(verdict_of(below.outcome), decoded)
+            verdict_of(below.outcome)
         }
-    }
+    };
+    Ok(Settlement { verdict, network })
 }

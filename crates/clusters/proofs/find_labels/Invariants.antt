@@ -4,4 +4,4 @@ use Rattle.clusters.specs.Search.{Labelled}
 use Rattle.clusters.proofs.find_labels.Given as goal
 
 abbrev pub invariant-loop-start : goal.invariant-loop-start
-invariant-loop-start l = Labelled l.count (assigned l.fn.values) l.start l.search.visited l.search.labels
+invariant-loop-start l = Labelled l.count (assigned l.fn.values) l.start l.search.labels

@@ -3,12 +3,12 @@
 use Rattle.std.specs.Prelude.{◌≡◌, Ok, Err}
 use Rattle.std.proofs.Math.Path.{refl, sym, ap, ap₂}
 use Rattle.std.proofs.Common.{◌∙◌, subst, arith, take_all, drop_at}
-use mathlib.Core.List.{List, [], ◌∷◌, ◌++◌, append_assoc, map-append}
+use mathlib.Core.List.{List, [], ◌∷◌, ◌++◌, append_assoc, append-nil, map-append}
 use Rattle.std.proofs.Math.Logic.{◌⊎◌, inl, inr, ⊎_elim}
 use Prim.Native.Nat.{ℕ, suc, ◌+◌, ◌-◌, ◌*◌, ◌^◌, ◌≤◌, ◌<◌}
 use Rattle.std.proofs.Math.Numerals.{add-one}
 use Rattle.std.proofs.Math.IntN.{ℤ}
-use Rattle.std.proofs.Math.ListN.{length, get_or, take, drop, length-append, get_or-append}
+use Rattle.std.proofs.Math.ListN.{length, get_or, set, take, drop, length-append, get_or-append, drop_of_length-le}
 use Rattle.std.proofs.lemmas.List.{length-map}
 use Rattle.std.proofs.Math.Seq.{take_at}
 use borrow.Author.Tests.{eq-eqb, ne_eqb, lt-ltb, le-ltb, le-leb, lt-leb}
@@ -17,8 +17,9 @@ use Rattle.prelude.specs.Lists.Laws.{each_out, each_then}
 use Rattle.prelude.specs.Blocks.{flatten, pairs_from}
 use Rattle.prelude.specs.Blocks.Laws.{flatten_append, flatten_more, flatten_room, flatten_split, pairs_append, pairs_length, store_pairs_more, pair_offset, pair_length}
 use Rattle.prelude.specs.Written.{written}
-use Rattle.prelude.specs.Written.Laws.{written_none, written_append}
+use Rattle.prelude.specs.Written.Laws.{written_none, written_length, written_one, written_append}
 use Rattle.cnf.specs.Cnf.{signed_of, Clause, Formula}
+use Rattle.cnf.specs.declared.Literal.{Literal}
 use Rattle.request.specs.Numbers.{Good, refusal_of}
 use Rattle.request.proofs.NumbersLaws.{good_refusal, refusal_good}
 use Rattle.request.specs.declared.Request.{Request}
@@ -42,6 +43,11 @@ use Rattle.formula_clauses.specs.Store.{signs, room_refusal, store_refusal, bloc
 pub signs_length : (c : Clause) → length (signs c) ≡ length c
 signs_length c = length-map c signed_of
 
+-- as many entries as a list has, written over all of it
+pub written_all : {A : Type 0} (l xs : List A) → length xs ≡ length l → written l 0 xs ≡ xs
+unfolding written
+written_all l xs h = ap (λ (r : List _). xs ++ r) (drop_of_length-le l (omega arith)) ∙ append-nil xs
+
 -- literals written on where the last write ended
 pub signs_more : (old now next : List ℤ) (at to : ℕ) (c d : Clause) → at + length c + length d ≤ length old → to ≡ at + length c
     → now ≡ written old at (signs c) → next ≡ written now to (signs d) → next ≡ written old at (signs (c ++ d))
@@ -51,6 +57,13 @@ signs_more old now next at to c d h e f g =
     let p : to ≡ at + length (signs c) = omega arith in
     g ∙ ap₂ (λ (x : List ℤ) (k : ℕ). written x k (signs d)) f p ∙ written_append old at (signs c) (signs d) (omega arith)
     ∙ ap (written old at) (sym (map-append signed_of c d))
+
+-- one literal written on
+pub signs_last : (old now next : List ℤ) (at : ℕ) (c : Clause) (x : Literal) (z : ℤ) → at ≡ length c → at < length old → z ≡ signed_of x
+    → now ≡ written old 0 (signs c) → next ≡ set now at z → next ≡ written old 0 (signs (c ++ (x ∷ [])))
+signs_last old now next at c x z e h f g n =
+    let l : at < length now = omega (arith, ap length g, written_length old 0 (signs c) (omega (arith, signs_length c))) in
+    signs_more old now next 0 at c (x ∷ []) (omega arith) (omega arith) g (n ∙ ap (set now at) f ∙ written_one now at (signed_of x) l)
 
 -- clauses stored one after the other, the first as clause `first` with its literals from the entry `from` on: after the first k of
 -- them the slices have these written, and the next literal has its place
@@ -373,6 +386,10 @@ module _ (q : Request) (literals pairs : ℕ) where
   unfolding store_sizes
   sizes_refusal = unless-number_of (store_refusal q literals pairs) (counts_of q) (room_most _ _ _ _ _ (refusal_most q))
 
+  -- and that of storing
+  pub store_number : number_of (unless {A = Unit {0}} (store_refusal q literals pairs) tt) ≡ store_refusal q literals pairs
+  store_number = unless-number_of {A = Unit {0}} (store_refusal q literals pairs) tt (room_most _ _ _ _ _ (refusal_most q))
+
 module _ (q : Request) (literals : List ℤ) (pairs : List ℕ) where
   -- a refusal leaves both slices
   pub store_refused : (x : ℕ) → store_refusal q (length literals) (length pairs) ≡ x → (x ≡ 0 → ⊥)
@@ -429,6 +446,11 @@ module _ (q : Request) (b literals pairs : ℕ) where
       → block_sizes q b literals pairs ≡ Ok (record { clauses = length (block_formula q b); literals = length (flatten (block_formula q b)) })
   unfolding block_sizes
   block_taken e = rw e
+
+  -- the number of the refusal, 0 where there is none
+  pub block_number : number_of (block_sizes q b literals pairs) ≡ block_refusal q b literals pairs
+  unfolding block_sizes
+  block_number = unless-number_of (block_refusal q b literals pairs) _ (room_most _ _ _ _ _ (refusal_most q))
 
   -- and back
   pub block_ok : (x : BlockSizes) → Ok x ≡ block_sizes q b literals pairs

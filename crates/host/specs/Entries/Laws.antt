@@ -10,8 +10,8 @@ use Rattle.formula.specs.Count.{counts_of, sizes_of}
 use Rattle.formula.proofs.CountLaws.{clause_count_lem, literal_count_lem, sizes_taken, sizes_refusal}
 use Rattle.formula.specs.declared.Sizes.{Sizes}
 use Rattle.settle.specs.declared.Verdict.{Verdict}
-use Rattle.settle.specs.declared.Verdict.TheVariants.{Least, Works, Fails, Refused}
-use Rattle.settle.specs.Settle.{verdict_values}
+use Rattle.settle.specs.declared.Verdict.TheVariants.{Least, Works, Fails}
+use Rattle.settle.specs.Settle.{Settling, IsLeast, said_values, verdict_values}
 use Rattle.host.specs.Entries.{size_numbers, verdict_code}
 
 -- V, C and T of a request that is taken
@@ -34,9 +34,13 @@ sizes_none q f e =
     let r : number f ≡ refusal_of q = ap (number_of {A = Sizes}) e ∙ sizes_refusal q in
     (r, rw (ne_eqb (refusal_of q) 0 (λ z. number_some f (r ∙ z))))
 
--- only "least" has the code 0
-pub code_least : (k : ℕ) (v : Verdict) → verdict_code (verdict_values k v) ≡ 0 → v ≡ Least
-code_least k Least e = refl
-code_least k (Works x) e = absurd (omega arith)
-code_least k (Fails row) e = absurd (omega arith)
-code_least k (Refused x) e = absurd (omega arith)
+-- only the verdict "least" has the code 0
+code_said : (k : ℕ) (v : Verdict) → verdict_code (said_values k v) ≡ 0 → v ≡ Least
+code_said k Least e = refl
+code_said k (Works x) e = absurd (omega arith)
+code_said k (Fails row) e = absurd (omega arith)
+
+-- and of all that settling answers only "least"
+pub code_least : (k : ℕ) (r : Settling) → verdict_code (verdict_values k r) ≡ 0 → IsLeast r
+code_least k (Ok x) e = code_said k x.verdict e
+code_least k (Err x) e = absurd (omega arith)

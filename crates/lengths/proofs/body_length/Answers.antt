@@ -1,9 +1,10 @@
 -- `body_length` meets its contract. The invariant: the total is the length of the lines of groups 1 and 2 and of the rows below k,
 -- and `before` is the number of the variables before row k. Assumes nothing.
-use mathlib.Core.Path.{◌≡◌, sym, ap, ◌∙◌, subst}
-use Prim.Native.Nat.{ℕ, ◌+◌, ◌-◌, ◌*◌, ◌%◌, ◌^◌, ◌≤◌, ◌<◌}
+use mathlib.Core.Path.{◌≡◌, sym, ap, ◌∙◌}
+use Prim.Native.Nat.{ℕ, ◌+◌, ◌-◌, ◌*◌, ◌%◌, ◌^◌, ◌<◌}
 use native.Mathlib.Nat.{add-zero}
 use native.Mathlib.Omega.{arith}
+use Rattle.request.specs.declared.Request.{Request}
 use Rattle.request.proofs.NumbersLaws.{rows_high}
 use Rattle.formula.specs.Formula.{network_variables}
 use Rattle.formula.specs.Count.{variables_before}
@@ -12,21 +13,23 @@ use Rattle.formula_clauses.specs.Block.Laws.{before_more, before_most}
 use Rattle.lengths.specs.Length.Laws.{blocks_first, blocks_more, blocks_last}
 use Rattle.lengths.proofs.body_length.Goals as goal
 
-pub loop-k-init : goal.loop-k-init
+-- before row 0 are the variables of groups 1 and 2
+first : (q : Request) (x : ℕ) → x ≡ network_variables q.n q.r → x ≡ variables_before q 0
 unfolding variables_before
+first q x e = e ∙ sym (add-zero _) ∙ ap (λ (y : ℕ). network_variables q.n q.r + y) (sym (split_none q (q.m * (2 * q.r + 1)) (2 * q.r + 2)))
+
+pub overflow_cast-before : goal.overflow_cast-before
+overflow_cast-before c =
+    let q = c.args.nets.good.request in
+    omega (arith, first q _ c.network_variables-before.ensures.0, before_most q 0 c.args.nets.good.good (omega arith))
+
+pub loop-k-init : goal.loop-k-init
 loop-k-init c =
     let q = c.args.nets.good.request in (
-      c.network_variables-before.ensures.0 ∙ sym (add-zero _) ∙ ap (λ (x : ℕ). network_variables q.n q.r + x) (sym (split_none q (q.m * (2 * q.r + 1)) (2 * q.r + 2))),
+      first q _ c.network_variables-before.ensures.0,
       c.network_length-total.ensures.0 ∙ sym (blocks_first q),
       omega (arith, c.network_length-total.ensures.1),
     )
-
-pub row_size-row-requires : goal.row_size-row-requires
-row_size-row-requires c =
-    let rows_are : 1 * 2 ^ c.args.nets.good.request.n % 2 ^ 8 ≡ 2 ^ c.args.nets.good.request.n = omega (arith, rows_high c.args.nets.good.request.n c.args.nets.good.good.n_high) in
-    let there : c.loop-k.k < 2 ^ c.args.nets.good.request.n = omega (arith, rows_are) in
-    let e = c.loop-k.invariant.0 in
-    (there, e, subst (λ (x : ℕ). x ≤ 65535) (sym e) (before_most c.args.nets.good.request c.loop-k.k c.args.nets.good.good (omega (arith, there))))
 
 pub overflow_add-before : goal.overflow_add-before
 overflow_add-before c =

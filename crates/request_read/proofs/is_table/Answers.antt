@@ -1,27 +1,20 @@
--- `request_read::is_table` meets its contract. The invariant: every byte before i is the character of a row. Assumes nothing.
-use Rattle.std.proofs.Common.{◌≡◌, ◌-◌, ◌^◌, sym, ◌∙◌, subst, arith}
-use Rattle.request.specs.Line.{row_character, Bytes}
+-- `request_read::is_table` meets its contract: the test of each byte is that of a row. Assumes nothing.
+use Rattle.std.proofs.Common.{◌^◌, ◌∙◌, rules, sym, arith, length}
+use Rattle.std.proofs.lemmas.Iterator.{YieldsList-from_slice}
+use Rattle.std.proofs.lemmas.Iterator.Search.{all_from_yields_List}
+use borrow.Author.Tests.{tests, eq-eqb, ne_eqb}
+use Rattle.request.specs.Line.{row_character}
 use Rattle.request.proofs.NumbersLaws.{rows_shl}
-use Rattle.request.proofs.LineLaws.{table_size, table_other, table_yes, bytes_none, bytes_more}
+use Rattle.request_read.specs.Part.{table_all}
 use Rattle.request_read.proofs.is_table.Goals as goal
 
-pub returns-then-end-from : goal.returns-then-end-from
-returns-then-end-from c =
-    sym (table_size _ _ _ _
-    (λ (e : c.args.end - c.args.from ≡ 2 ^ c.args.n).
-    c.if-end-from.true (e ∙ sym (rows_shl c.args.n 64 (omega arith) (omega arith)))))
+pub returns-then-run-n : goal.returns-then-run-n
+returns-then-run-n c =
+    let e = rows_shl c.args.n 64 (omega arith) (omega arith) in
+    rw (table_all c.args.run.now c.args.n, eq-eqb (length c.args.run.now) (2 ^ c.args.n) (c.if-run-n.true ∙ e))
+    (all_from_yields_List row_character _ _ _ c.all.ensures.ran (YieldsList-from_slice c.args.run.now (search rules)) (λ x b q k. search (rules, tests)))
 
-pub loop-i-init : goal.loop-i-init
-loop-i-init c = bytes_none _ _ _
-
-pub returns-then-not-is_row : goal.returns-then-not-is_row
-returns-then-not-is_row c = sym (table_other _ _ _ _ _ (omega arith) (omega arith) (sym c.is_row.ensures ∙ c.if-not-is_row.true))
-
-pub loop-i-preserved : goal.loop-i-preserved
-loop-i-preserved c = bytes_more _ _ _ _ c.loop-i.invariant (sym c.is_row.ensures ∙ c.if-not-is_row.false)
-
-pub returns : goal.returns
-returns c =
-    let a = c.args in
-    sym (table_yes _ _ _ _ (c.if-end-from.false ∙ rows_shl a.n 64 (omega arith) (omega arith))
-    (subst (Bytes row_character a.text.now a.from) (let z : c.loop-i.i ≡ a.end = omega arith in z) c.loop-i.invariant))
+pub returns-else-run-n : goal.returns-else-run-n
+returns-else-run-n c =
+    let e = rows_shl c.args.n 64 (omega arith) (omega arith) in
+    rw (table_all c.args.run.now c.args.n, e, ne_eqb (length c.args.run.now) (2 ^ c.args.n) (λ h. c.if-run-n.false (h ∙ sym e)))

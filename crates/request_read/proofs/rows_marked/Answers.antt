@@ -1,42 +1,36 @@
--- `request_read::rows_marked` meets its contract. The invariant: the number is that of the last k characters, which has at most as many
--- bits as there may be rows; each turn puts one character more in front. Assumes nothing.
-use Rattle.std.proofs.Common.{◌≡◌, ℕ, List, ◌+◌, ◌-◌, ◌^◌, ◌<◌, ◌≤◌, sym, ◌∙◌, subst, arith}
+-- `request_read::rows_marked` meets its contract. The invariant: the number is that of the bytes that were taken from the end of the run;
+-- each turn puts one more in front. Assumes nothing.
+use Rattle.std.proofs.Common.{◌≡◌, ◌∷◌, [], refl, arith, append-nil}
+use Rattle.std.proofs.lemmas.List.{nil_from_length}
 use Rattle.request.specs.Line.{marked}
-use Rattle.request.specs.Numbers.{rows_most}
-use Rattle.request.proofs.LineLaws.{marked_none, marked_yes, marked_no, marked_word}
+use Rattle.request_read.specs.Part.{marked_front}
 use Rattle.request_read.proofs.rows_marked.Goals as goal
-use Rattle.request_read.proofs.rows_marked.Goals.{then-text-end, else-text-end}
 
--- the number so far is a word of as many bits as there may be rows
-word : (b : ℕ) (s : List ℕ) (from end k rows : ℕ) → from ≤ end → end - from ≤ rows_most → k ≤ end - from
-    → rows ≡ marked b s (end - k) (end - (end - k)) → rows < 2 ^ rows_most
-word b s from end k rows h w l e =
-    subst (λ (x : ℕ). x < 2 ^ rows_most) (sym e) (marked_word b s end (end - k) from (omega arith) (omega arith) w)
-
-pub loop-k-init : goal.loop-k-init
-loop-k-init c = sym (marked_none _ _ _ _ (omega arith))
+pub loop-b-init : goal.loop-b-init
+unfolding marked
+loop-b-init c = ([], let e = append-nil c.args.run.now in cc, refl)
 
 pub overflow_mul-rows : goal.overflow_mul-rows
-overflow_mul-rows c = omega (arith, word _ _ _ _ _ _ c.requires.0 c.requires.2 (omega arith) c.loop-k.invariant)
+overflow_mul-rows c =
+    let i = c.loop-b.invariant in
+    let f = marked_front c.args.mark c.in-Some.b.now c.loop-b.rows _ _ i.0 c.requires (rw c.in-Some.ensures.steps at i.1) i.2 in
+    omega (arith, f.2)
 
 pub overflow_add-rows : goal.overflow_add-rows
-overflow_add-rows c = omega (arith, word _ _ _ _ _ _ c.requires.0 c.requires.2 (omega arith) c.loop-k.invariant)
+overflow_add-rows c =
+    let i = c.loop-b.invariant in
+    let f = marked_front c.args.mark c.in-Some.b.now c.loop-b.rows _ _ i.0 c.requires (rw c.in-Some.ensures.steps at i.1) i.2 in
+    omega (arith, f.2)
 
-pub loop-k-preserved : goal.loop-k-preserved
-loop-k-preserved c =
-    let a = c.args in
-    let z : a.end - (c.loop-k.k + 1) ≡ a.end - c.loop-k.k - 1 = omega arith in
-    let y : a.end - 1 - c.loop-k.k ≡ a.end - c.loop-k.k - 1 = omega arith in
-    rw z
-    (elim c.if-text-end.branch [
-      | then-text-end w ↦ w.rows-is ∙ marked_yes a.mark a.text.now a.end (a.end - c.loop-k.k) _ c.loop-k.invariant (omega arith) (omega arith) (rw y at w.if-text-end.true)
-      | else-text-end w ↦ w.rows-is ∙ marked_no a.mark a.text.now a.end (a.end - c.loop-k.k) _ c.loop-k.invariant (omega arith) (omega arith) (rw y at w.if-text-end.false)
-    ])
-
-pub overflow_cast-result : goal.overflow_cast-result
-overflow_cast-result c = omega (arith, word _ _ _ _ _ _ c.requires.0 c.requires.2 (omega arith) c.loop-k.invariant)
+pub loop-b-preserved : goal.loop-b-preserved
+loop-b-preserved c =
+    let i = c.loop-b.invariant in
+    let f = marked_front c.args.mark c.in-Some.b.now c.loop-b.rows _ _ i.0 c.requires (rw c.in-Some.ensures.steps at i.1) i.2 in
+    (c.in-Some.b.now ∷ i.0, f.0, rw c.from.ensures f.1)
 
 pub returns : goal.returns
 returns c =
-    let z : c.args.end - c.loop-k.k ≡ c.args.from = omega arith in
-    rw z at c.loop-k.invariant
+    let i = c.loop-b.invariant in
+    let e = nil_from_length _ c.in-None.ensures.steps.0 in
+    let z : c.args.run.now ≡ i.0 = rw e at i.1 in
+    rw z i.2

@@ -1,9 +1,10 @@
 -- Each way through the code is a case of the definition; the refutation is checked for the request with one switch fewer.
 -- Assumes nothing.
-use mathlib.Core.Path.{◌≡◌, refl, sym, ap, ◌∙◌, subst}
+use mathlib.Core.Path.{◌≡◌, refl, sym, ap, ◌∙◌}
 use mathlib.Core.List.{List}
 use Prim.Native.Nat.{ℕ, zero, suc}
-use Rattle.std.specs.Prelude.{None, Ok, Err}
+use Rattle.std.specs.Prelude.{None, Some, Ok, Err, IfOk}
+use Rattle.std.proofs.lemmas.Result.{err_from_is_err_and}
 use native.Mathlib.Omega.{arith}
 use lib.IntN.{ℤ}
 use Rattle.request.specs.declared.Request.{Request}
@@ -15,50 +16,48 @@ use Rattle.refusal.specs.Refusal.Laws.{unless-ok}
 use Rattle.answer.specs.Reading.{reading_of, result_of}
 use Rattle.lrat.specs.declared.Checked.{Checked as Ended}
 use Rattle.lrat_check.specs.Refutation.{Lent, lent, check_answer, check_leaves}
-use Rattle.settle.specs.declared.Settlement.{Settlement}
 use Rattle.settle.specs.declared.Verdict.{Verdict}
 use Rattle.settle.specs.declared.Verdict.TheVariants.{Least}
 use Rattle.network.specs.Least.{LeastFor}
-use Rattle.settle.specs.Settle.{verdict_number, verdict_values, smaller, outcome_verdict, verdict_below, refused_with, judged, settle_number, settle_values, settlement, leaves_below, slices_after, settle_leaves}
+use Rattle.settle.specs.Settle.{Settling, verdict_number, verdict_values, smaller, outcome_verdict, verdict_below, judged, settle_number, settle_values, settlement, leaves_below, slices_after, settle_leaves}
 use Rattle.settle.proofs.SettleNumbers.{settle_number_lem, settle_values_lem}
 use Rattle.settle.specs.Settle.Laws.{Settles, settles_refused, settles_judged, below_zero, below_more}
-use Rattle.settle.specs.Settle.Meaning.{least_for}
+use Rattle.settle.specs.Settle.Meaning.{least_told}
 use Rattle.settle.proofs.settle.Goals as goal
 
 module _ (q : Request) (answer refutation : List ℕ) (literals : List ℤ) (pairs added values : List ℕ) where
   abbrev before : Lent
   before = lent literals pairs added values
 
-  -- what is ensured of a settlement and of the slices
-  abbrev Answer : Settlement → Lent → Type 0
+  -- what is ensured of what settling answers and of the slices
+  abbrev Answer : Settling → Lent → Type 0
   Answer x l =
       (x ≡ settlement q answer refutation before)
-      × ((l ≡ settle_leaves q answer refutation before) × ((x.verdict ≡ Least → LeastFor q x.network)
-      × ((verdict_number x.verdict ≡ settle_number q answer)
-      × (verdict_values q.r x.verdict ≡ settle_values q answer refutation before))))
+      × ((l ≡ settle_leaves q answer refutation before) × (IfOk x (λ y. y.verdict ≡ Least → LeastFor q y.network)
+      × ((verdict_number x ≡ settle_number q answer)
+      × (verdict_values q.r x ≡ settle_values q answer refutation before))))
 
-  answered : (x : Settlement) (l : Lent) → Settles q answer refutation before x l → Answer x l
+  answered : (x : Settling) (l : Lent) → Settles q answer refutation before x l → Answer x l
   answered x l s = (
     s.says,
     (
       s.leaves,
       (
-        λ e. subst (λ (y : Settlement). LeastFor q y.network) (sym s.says)
-            (least_for q answer refutation before (ap (λ (y : Settlement). y.verdict) (sym s.says) ∙ e)),
+        least_told q answer refutation before x s.says,
         (
-          ap (λ (y : Settlement). verdict_number y.verdict) s.says ∙ settle_number_lem q answer refutation before,
-          ap (λ (y : Settlement). verdict_values q.r y.verdict) s.says ∙ settle_values_lem q answer refutation before,
+          ap verdict_number s.says ∙ settle_number_lem q answer refutation before,
+          ap (verdict_values q.r) s.says ∙ settle_values_lem q answer refutation before,
         ),
       ),
     ),
   )
 
   -- a reading that refuses
-  is-refused : (f : Refusal) → Err f ≡ result_of (reading_of q answer) → (x : Settlement) → x ≡ refused_with f → Answer x before
+  is-refused : (f : Refusal) → Err f ≡ result_of (reading_of q answer) → (x : Settling) → x ≡ Err f → Answer x before
   is-refused f g x e =
       let r = refused_by f g in
       let s = settles_refused q answer refutation before r.0 in
-      answered x before (record { says = e ∙ ap refused_with r.1 ∙ s.says; leaves = s.leaves })
+      answered x before (record { says = e ∙ ap Err r.1 ∙ s.says; leaves = s.leaves })
     where
       refused_by : (f : Refusal) → Err f ≡ result_of (reading_of q answer) → ((reading_of q answer).refusal ≡ 0 → ⊥) × (f ≡ numbered (reading_of q answer).refusal)
       refused_by f g = go (reading_of q answer).refusal (reading_of q answer).network g
@@ -74,13 +73,13 @@ module _ (q : Request) (answer refutation : List ℕ) (literals : List ℤ) (pai
 
     -- what the check of its network gave
     module _ (c : Checked) (c-is : c ≡ checked_of q w) where
-      is-judged : (x : Settlement) (l : Lent) (k : Checked) → c ≡ k → x ≡ judged k (verdict_below q refutation before) w
+      is-judged : (x : Settling) (l : Lent) (k : Checked) → c ≡ k → x ≡ judged k (verdict_below q refutation before) w
           → l ≡ slices_after k before (leaves_below q refutation before) → Answer x l
       is-judged x l k e f g =
           let s = settles_judged q answer refutation before read-ok.0 k (sym e ∙ c-is ∙ ap (checked_of q) read-ok.1) in
           answered x l (record { says = f ∙ ap (judged k (verdict_below q refutation before)) read-ok.1 ∙ s.says; leaves = g ∙ s.leaves })
 
-      is_zero : c ≡ Ok None → q.r ≡ 0 → (x : Settlement) → x ≡ record { verdict = Least; network = w } → Answer x before
+      is_zero : c ≡ Ok None → q.r ≡ 0 → (x : Settling) → x ≡ Ok (record { verdict = Least; network = w }) → Answer x before
       is_zero e z x f =
           let b = below_zero q refutation before z in
           is-judged x before (Ok None) e (f ∙ ap (λ (v : Verdict). judged (Ok None) v w) b.0) b.1
@@ -89,7 +88,7 @@ module _ (q : Request) (answer refutation : List ℕ) (literals : List ℤ) (pai
       is-more : c ≡ Ok None → (q.r ≡ 0 → ⊥) → (p : Request) → p ≡ smaller q
           → (t : Ended) → t ≡ check_answer p refutation before → (l : Lent) → l ≡ check_leaves p refutation before
           → (v : Verdict) → v ≡ outcome_verdict t.outcome
-          → (x : Settlement) → x ≡ record { verdict = v; network = w } → Answer x l
+          → (x : Settling) → x ≡ Ok (record { verdict = v; network = w }) → Answer x l
       is-more e h p p-is t t-is l l-is v v-is x f =
           let b = below_more q refutation before h in
           let o = t-is ∙ ap (λ (y : Request). check_answer y refutation before) p-is in
@@ -97,37 +96,40 @@ module _ (q : Request) (answer refutation : List ℕ) (literals : List ℤ) (pai
           (f ∙ ap (λ (u : Verdict). judged (Ok None) u w) (v-is ∙ ap (λ (y : Ended). outcome_verdict y.outcome) o ∙ b.0))
           (l-is ∙ ap (λ (y : Request). check_leaves y refutation before) p-is ∙ b.1)
 
-pub returns-in-Err : goal.returns-in-Err
-returns-in-Err c =
+pub returns-in_err-network : goal.returns-in_err-network
+returns-in_err-network c =
+    let e = err_from_is_err_and c.from_residual.result c.from_residual.ensures.1 in
     let p = is-refused c.args.q c.args.answer.now c.args.refutation.now c.args.literals.now c.args.pairs.now
-    c.args.added.now c.args.values.now _ c.in-Err.ensures _ c.refused.ensures in
+    c.args.added.now c.args.values.now _ c.in_err-network.ensures _ (e.1 ∙ ap Err e.2) in
     record { settled = p.0; slices = p.1.0; least = p.1.1.0; number = p.1.1.1.0; values = p.1.1.1.1 }
 
-pub returns-then-q-eq0 : goal.returns-then-q-eq0
-returns-then-q-eq0 c =
+pub returns-in_err-row : goal.returns-in_err-row
+returns-in_err-row c =
+    let r = c.from_residual-in_err-row in
+    let e = err_from_is_err_and r.result r.ensures.1 in
+    let p = is-judged c.args.q c.args.answer.now c.args.refutation.now c.args.literals.now c.args.pairs.now
+    c.args.added.now c.args.values.now _ c.in_ok-network.ensures _ c.in_err-row.ensures.answer
+    _ _ _ refl (e.1 ∙ ap Err e.2) refl in
+    record { settled = p.0; slices = p.1.0; least = p.1.1.0; number = p.1.1.1.0; values = p.1.1.1.1 }
+
+pub returns-in-Some : goal.returns-in-Some
+returns-in-Some c =
+    let p = is-judged c.args.q c.args.answer.now c.args.refutation.now c.args.literals.now c.args.pairs.now
+    c.args.added.now c.args.values.now _ c.in_ok-network.ensures _ c.in_ok-row.ensures.answer
+    _ _ (Ok (Some c.in-Some.row)) (ap Ok c.in-Some.is) refl refl in
+    record { settled = p.0; slices = p.1.0; least = p.1.1.0; number = p.1.1.1.0; values = p.1.1.1.1 }
+
+pub returns-in-None : goal.returns-in-None
+returns-in-None c =
     let p = is_zero c.args.q c.args.answer.now c.args.refutation.now c.args.literals.now c.args.pairs.now
-    c.args.added.now c.args.values.now _ c.in-Ok.ensures _ c.in-Ok-None.ensures.answer
-    (ap Ok c.in-Ok-None.field-0-is) (omega (arith, c.if-q-eq0.true)) _ c.with_network-then-q-eq0.ensures in
+    c.args.added.now c.args.values.now _ c.in_ok-network.ensures _ c.in_ok-row.ensures.answer
+    (ap Ok c.in-None.is) (omega (arith, c.if-q-eq0.true)) _ refl in
     record { settled = p.0; slices = p.1.0; least = p.1.1.0; number = p.1.1.1.0; values = p.1.1.1.1 }
 
-pub returns-in-Err-check_network : goal.returns-in-Err-check_network
-returns-in-Err-check_network c =
-    let p = is-judged c.args.q c.args.answer.now c.args.refutation.now c.args.literals.now c.args.pairs.now
-    c.args.added.now c.args.values.now _ c.in-Ok.ensures _ c.in-Err-check_network.ensures.answer
-    _ _ _ refl c.refused-in-Err-check_network.ensures refl in
-    record { settled = p.0; slices = p.1.0; least = p.1.1.0; number = p.1.1.1.0; values = p.1.1.1.1 }
-
-pub returns-in-Ok-Some : goal.returns-in-Ok-Some
-returns-in-Ok-Some c =
-    let p = is-judged c.args.q c.args.answer.now c.args.refutation.now c.args.literals.now c.args.pairs.now
-    c.args.added.now c.args.values.now _ c.in-Ok.ensures _ c.in-Ok-Some.ensures.answer
-    _ _ _ (ap Ok c.in-Ok-Some.field-0-is) c.with_network.ensures refl in
-    record { settled = p.0; slices = p.1.0; least = p.1.1.0; number = p.1.1.1.0; values = p.1.1.1.1 }
-
-pub returns-else-q-eq0 : goal.returns-else-q-eq0
-returns-else-q-eq0 c =
+pub returns-in-None-2 : goal.returns-in-None-2
+returns-in-None-2 c =
     let p = is-more c.args.q c.args.answer.now c.args.refutation.now c.args.literals.now c.args.pairs.now
-    c.args.added.now c.args.values.now _ c.in-Ok.ensures _ c.in-Ok-None.ensures.answer
-    (ap Ok c.in-Ok-None.field-0-is) (λ z. omega (arith, c.if-q-eq0.false))
-    _ c.one_fewer.ensures _ c.check-below.ensures.answer _ c.check-below.ensures.slices _ c.verdict_of.ensures _ c.with_network-in-Ok-None.ensures in
+    c.args.added.now c.args.values.now _ c.in_ok-network.ensures _ c.in_ok-row.ensures.answer
+    (ap Ok c.in-None-2.is) (λ z. omega (arith, c.if-q-eq0.false))
+    _ c.one_fewer.ensures _ c.check-below.ensures.answer _ c.check-below.ensures.slices _ c.verdict_of-verdict.ensures _ refl in
     record { settled = p.0; slices = p.1.0; least = p.1.1.0; number = p.1.1.1.0; values = p.1.1.1.1 }

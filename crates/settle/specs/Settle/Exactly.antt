@@ -1,6 +1,6 @@
 -- "least" is said exactly where the answer is taken, the network does the job and nothing smaller is left. Assumes nothing.
 use Rattle.std.specs.Prelude.{◌≡◌, refl, List, ◌⊎◌, ◌↔◌, ℕ, Some, None, Ok, Err}
-use Rattle.std.proofs.Common.{sym, ap, ◌∙◌, inl, inr, ⊎_elim, arith}
+use Rattle.std.proofs.Common.{sym, ap, subst, ◌∙◌, inl, inr, ⊎_elim, arith}
 use Rattle.prelude.specs.Tests.{eq?}
 use Rattle.request.specs.declared.Request.{Request}
 use Rattle.network.specs.declared.Network.{Network}
@@ -11,18 +11,17 @@ use Rattle.answer.specs.Reading.{reading_of}
 use Rattle.answer.proofs.ReadingMeaning.{assignment_in, taken_request, taken_describes, described_fits}
 use Rattle.lrat.specs.Outcome.{Outcome}
 use Rattle.lrat_check.specs.Refutation.{Lent, check_answer}
-use Rattle.settle.specs.declared.Settlement.{Settlement}
 use Rattle.settle.specs.declared.Verdict.{Verdict}
-use Rattle.settle.specs.declared.Verdict.TheVariants.{Least, Refused}
-use Rattle.settle.specs.Settle.{smaller, outcome_verdict, verdict_below, judged, settlement}
+use Rattle.settle.specs.declared.Verdict.TheVariants.{Least}
+use Rattle.settle.specs.Settle.{IsLeast, smaller, outcome_verdict, verdict_below, judged, settlement}
 use Rattle.settle.specs.Settle.Laws.{settles_refused, settles_judged, below_zero, below_more}
 
 -- ---- the verdict by the check of the network
 -- "least" is said only where the network does the job
-judged_least : (c : Checked) (v : Verdict) (w : Network) → (judged c v w).verdict ≡ Least → (c ≡ Ok None) × (v ≡ Least)
+judged_least : (c : Checked) (v : Verdict) (w : Network) → IsLeast (judged c v w) → (c ≡ Ok None) × (v ≡ Least)
 judged_least (Ok None) v w e = (refl, e)
 judged_least (Ok (Some row)) v w e = absurd (let z : ◌≡◌ {A = ℕ} 0 1 = cc in omega arith)
-judged_least (Err x) v w e = absurd (let z : ◌≡◌ {A = ℕ} 0 1 = cc in omega arith)
+judged_least (Err x) v w e = absurd e
 
 -- ---- the verdict by the outcome of the refutation
 outcome_least : (o : Outcome) → outcome_verdict o ≡ Least → o ≡ Ok tt
@@ -67,14 +66,9 @@ module _ (q : Request) (answer refutation : List ℕ) (s : Lent) where
   abbrev checked : Checked
   checked = checked_of q read
 
-  -- the verdict of an answer that is taken, and of one that is refused
-  taken_verdict : (reading_of q answer).refusal ≡ 0
-      → (judged checked (verdict_below q refutation s) read).verdict ≡ (settlement q answer refutation s).verdict
-  taken_verdict z = ap (λ (x : Settlement). x.verdict) (settles_judged q answer refutation s z checked refl).says
-
-  pub refused_verdict : ((reading_of q answer).refusal ≡ 0 → ⊥)
-      → Refused (numbered (reading_of q answer).refusal) ≡ (settlement q answer refutation s).verdict
-  refused_verdict d = ap (λ (x : Settlement). x.verdict) (settles_refused q answer refutation s d).says
+  -- an answer that is refused
+  pub refused_verdict : ((reading_of q answer).refusal ≡ 0 → ⊥) → Err (numbered (reading_of q answer).refusal) ≡ settlement q answer refutation s
+  refused_verdict d = (settles_refused q answer refutation s d).says
 
   -- the settlement, where the check of the network is known
   known : (reading_of q answer).refusal ≡ 0 → (c : Checked) → checked_of q (reading_of q answer).network ≡ c
@@ -88,23 +82,20 @@ module _ (q : Request) (answer refutation : List ℕ) (s : Lent) where
     pub does_job : checked_of q (reading_of q answer).network ≡ Ok None
     pub below : (q.r ≡ 0) ⊎ ((check_answer (smaller q) refutation s).outcome ≡ Ok tt)
 
-  pub least_conditions : (settlement q answer refutation s).verdict ≡ Least → LeastConditions
+  pub least_conditions : IsLeast (settlement q answer refutation s) → LeastConditions
   least_conditions e =
       ⊎_elim
       (λ (z : (reading_of q answer).refusal ≡ 0).
-      let j = judged_least checked (verdict_below q refutation s) read (taken_verdict z ∙ e) in
+      let j = judged_least checked (verdict_below q refutation s) read (subst IsLeast (known z checked refl) e) in
       record { taken = z; does_job = j.0; below = below_least q refutation s j.1 })
-      (λ (d : (reading_of q answer).refusal ≡ 0 → ⊥).
-      absurd
-      (let f : Refused (numbered (reading_of q answer).refusal) ≡ Least = refused_verdict d ∙ e in
-      let z : ◌≡◌ {A = ℕ} 0 1 = cc in omega arith))
+      (λ (d : (reading_of q answer).refusal ≡ 0 → ⊥). absurd (subst IsLeast (sym (refused_verdict d)) e))
       (eq? (reading_of q answer).refusal 0)
 
   -- where they hold, "least" is said, with the decoded network
-  pub conditions_least : LeastConditions → settlement q answer refutation s ≡ record { verdict = Least; network = (reading_of q answer).network }
+  pub conditions_least : LeastConditions → settlement q answer refutation s ≡ Ok (record { verdict = Least; network = (reading_of q answer).network })
   conditions_least t =
       known t.taken (Ok None) t.does_job ∙ ap (λ (v : Verdict). judged (Ok None) v read) (least_below q refutation s t.below)
 
   -- "least" is said exactly where they hold
-  pub least_exactly : ((settlement q answer refutation s).verdict ≡ Least) ↔ LeastConditions
-  least_exactly = (least_conditions, λ t. ap (λ (x : Settlement). x.verdict) (conditions_least t))
+  pub least_exactly : IsLeast (settlement q answer refutation s) ↔ LeastConditions
+  least_exactly = (least_conditions, λ t. subst IsLeast (sym (conditions_least t)) refl)

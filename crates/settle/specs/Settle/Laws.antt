@@ -1,5 +1,5 @@
 -- Settling by its tests: each verdict, with the network and the slices that go with it. Assumes nothing.
-use Rattle.std.specs.Prelude.{◌≡◌, List, ℕ}
+use Rattle.std.specs.Prelude.{◌≡◌, List, ℕ, Err}
 use borrow.Author.Tests.{eq-eqb, ne_eqb}
 use Rattle.request.specs.declared.Request.{Request}
 use Rattle.network.specs.declared.Network.{Network}
@@ -7,9 +7,8 @@ use Rattle.refusal.specs.Refusal.{numbered}
 use Rattle.network.specs.Check.{Checked, checked_of}
 use Rattle.answer.specs.Reading.{reading_of}
 use Rattle.lrat_check.specs.Refutation.{Lent, check_answer, check_leaves}
-use Rattle.settle.specs.declared.Settlement.{Settlement}
 use Rattle.settle.specs.declared.Verdict.TheVariants.{Least}
-use Rattle.settle.specs.Settle.{smaller, outcome_verdict, verdict_below, refused_with, judged, settlement, leaves_below, slices_after, settle_leaves}
+use Rattle.settle.specs.Settle.{Settling, smaller, outcome_verdict, verdict_below, judged, settlement, leaves_below, slices_after, settle_leaves}
 
 module _ (q : Request) (refutation : List ℕ) (s : Lent) where
   -- the verdict and the slices where the network does the job, at k = 0
@@ -29,12 +28,12 @@ module _ (q : Request) (answer refutation : List ℕ) (s : Lent) where
   read = (reading_of q answer).network
 
   -- what settling says and leaves
-  pub record Settles (x : Settlement) (l : Lent) : Type 0 where
+  pub record Settles (x : Settling) (l : Lent) : Type 0 where
     pub says : x ≡ settlement q answer refutation s
     pub leaves : l ≡ settle_leaves q answer refutation s
 
   -- a refused answer
-  pub settles_refused : ((reading_of q answer).refusal ≡ 0 → ⊥) → Settles (refused_with (numbered (reading_of q answer).refusal)) s
+  pub settles_refused : ((reading_of q answer).refusal ≡ 0 → ⊥) → Settles (Err (numbered (reading_of q answer).refusal)) s
   unfolding settlement settle_leaves
   settles_refused d = let n = ne_eqb (reading_of q answer).refusal 0 d in record { says = rw n; leaves = rw n }
 

@@ -1,5 +1,5 @@
 -- What "least" means (demand 3): the network does the job, and no network of fewer switches does. Assumes nothing.
-use Rattle.std.specs.Prelude.{◌≡◌, List, ℕ, ◌-◌, ◌≤◌, length}
+use Rattle.std.specs.Prelude.{◌≡◌, List, ℕ, ◌-◌, ◌≤◌, length, Ok, Err, IfOk}
 use Rattle.std.proofs.Common.{sym, ap, ◌∙◌, subst, inl, inr, arith, length-append}
 use Rattle.std.proofs.lemmas.List.{length-replicate}
 use Rattle.prelude.specs.Lists.Laws.{length_tab}
@@ -20,9 +20,8 @@ use Rattle.answer.specs.Reading.{reading_of}
 use Rattle.answer.proofs.ReadingMeaning.{assignment_in, taken_request, taken_describes}
 use Rattle.lrat_check.specs.Refutation.{Lent}
 use Rattle.lrat_check.specs.Refutation.Sound.{none_more}
-use Rattle.settle.specs.declared.Settlement.{Settlement}
 use Rattle.settle.specs.declared.Verdict.TheVariants.{Least}
-use Rattle.settle.specs.Settle.{smaller, settlement}
+use Rattle.settle.specs.Settle.{Settling, settled_network, IsLeast, smaller, settlement}
 use Rattle.settle.specs.Settle.Exactly.{NoneBelow, LeastConditions, least_conditions, conditions_least}
 
 -- ---- a network that is decoded fills its arrays
@@ -73,12 +72,13 @@ module _ (q : Request) (answer refutation : List ℕ) (s : Lent) where
       }
 
   -- where settling says "least", the network that it hands back is the decoded one
-  least_network : (settlement q answer refutation s).verdict ≡ Least → (settlement q answer refutation s).network ≡ (reading_of q answer).network
-  least_network e = ap (λ (x : Settlement). x.network) (conditions_least q answer refutation s (least_conditions q answer refutation s e))
+  least_network : IsLeast (settlement q answer refutation s) → settled_network (settlement q answer refutation s) ≡ (reading_of q answer).network
+  least_network e = ap settled_network (conditions_least q answer refutation s (least_conditions q answer refutation s e))
 
   -- so it fills its arrays
-  pub least_arrays : (settlement q answer refutation s).verdict ≡ Least
-      → (length (settlement q answer refutation s).network.literals ≡ switches_most) × (length (settlement q answer refutation s).network.labels ≡ terminals_most)
+  pub least_arrays : IsLeast (settlement q answer refutation s)
+      → (length (settled_network (settlement q answer refutation s)).literals ≡ switches_most)
+      × (length (settled_network (settlement q answer refutation s)).labels ≡ terminals_most)
   least_arrays e =
       let a = decoded_arrays q answer (least_conditions q answer refutation s e).taken in (
         ap (λ (x : Network). length x.literals) (least_network e) ∙ a.0,
@@ -86,5 +86,10 @@ module _ (q : Request) (answer refutation : List ℕ) (s : Lent) where
       )
 
   -- and it has k switches and does the job, and none of fewer does
-  pub least_for : (settlement q answer refutation s).verdict ≡ Least → LeastFor q (settlement q answer refutation s).network
+  pub least_for : IsLeast (settlement q answer refutation s) → LeastFor q (settled_network (settlement q answer refutation s))
   least_for e = subst (LeastFor q) (sym (least_network e)) (conditions_for (least_conditions q answer refutation s e))
+
+  -- the same of what settling answers, where it is no refusal
+  pub least_told : (r : Settling) → r ≡ settlement q answer refutation s → IfOk r (λ x. x.verdict ≡ Least → LeastFor q x.network)
+  least_told (Ok x) f = λ e. subst (LeastFor q) (ap settled_network (sym f)) (least_for (subst IsLeast f e))
+  least_told (Err x) f = tt

@@ -1,17 +1,18 @@
 -- Each way through is one of the definition. Assumes nothing.
 use Rattle.std.specs.Prelude.{◌≡◌, ℕ, Option, Some, None, Result, Err, ◌⊎◌}
-use Rattle.std.proofs.Common.{sym, ap, ◌∙◌, refl, inl, inr, arith}
+use Rattle.std.proofs.Common.{List, length, drop, length-drop, eqb, ◌≤◌, sym, ap, ◌∙◌, refl, inl, inr, arith}
 use Rattle.std.specs.Option.{ok_or}
 use Rattle.std.proofs.lemmas.Option.{MatchOption-at_some, MatchOption-at_none}
 use Rattle.std.proofs.lemmas.Result.{err_from_is_err_and}
 use borrow.Author.Tests.{eq-eqb, ne_eqb}
 use Rattle.prelude.specs.Tests.{eq?}
+use Rattle.prelude.specs.Lists.Laws.{first_within}
 use Rattle.refusal.specs.declared.Refusal.{Refusal}
 use Rattle.refusal.specs.declared.Refusal.TheVariants.{AnswerLine}
 use Rattle.refusal.specs.Refusal.{number}
 use Rattle.answer.specs.declared.Form.{Form}
 use Rattle.answer.specs.declared.Progress.{Progress}
-use Rattle.answer.specs.Lines.{some_form}
+use Rattle.answer.specs.Lines.{line_end, some_form}
 use Rattle.answer.specs.Reading.{Line, LineBy, line, phase_number}
 use Rattle.answer.proofs.ReadingLaws.{step_unfinished, step_passed, step_solution, step_other, step_late, step_unformed, step_refused, step_last, step_more}
 use Rattle.answer_read.proofs.read.read_line.Goals as goal
@@ -23,6 +24,11 @@ refused l r s x p h = rw p.1 (h ∙ ap number (sym p.2))
 -- what stands in a line's place where there is nothing
 line_error : {A : Type 0} (o : Option A) (x : Refusal) → Err x ≡ ok_or o AnswerLine → o ≡ None → 9 ≡ number x
 line_error o x e n = let h = rw n at e in let z : AnswerLine ≡ x = cc in ap number z
+
+-- where a line has no newline it goes on to the end of the text
+to_end : (t : List ℕ) (p : ℕ) → p ≤ length t → length t ≤ line_end t p → line_end t p ≡ length t
+unfolding line_end
+to_end t p l h = omega (arith, first_within (eqb 10) (drop p t), length-drop p t)
 
 -- no form, and a form
 no_next : (f : Form) → None ≡ some_form f → f.next ≡ 0
@@ -43,7 +49,8 @@ pub returns-in_err-end-clause-step : goal.returns-in_err-end-clause-step
 returns-in_err-end-clause-step c =
     let none = c.in_err-end.ensures.ok_part in
     refused _ _ _ _ (err_from_is_err_and c.from_residual.result c.from_residual.ensures.1)
-    (sym (ap (λ (l : Line). l.refusal) (step_unfinished _ _ _ _ _ _ _ c.if-text-at-eq99.true refl (MatchOption-at_none _ _ none c.line_end.ensures)))
+    (sym (ap (λ (l : Line). l.refusal) (step_unfinished _ _ _ _ _ _ _ c.if-text-at-eq99.true refl
+    (to_end _ _ (omega arith) (MatchOption-at_none _ _ none c.line_end.ensures))))
     ∙ line_error _ _ c.in_err-end.ensures.value none)
 
 pub returns-then-text-at-eq99-clause-step : goal.returns-then-text-at-eq99-clause-step

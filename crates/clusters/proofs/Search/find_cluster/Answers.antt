@@ -15,8 +15,8 @@ loop-head-init c =
     let p = c.requires in
     let few = c.args.graph.now.few in
     let long : length c.args.self.now.queue ≡ terminals_most = search rules in
-    let q = searching_first _ _ few _ _ _ _ long p.labelled in
-    rw c.visit.ensures (left_none _ _ few _ _ q p.inside p.new (labelled_start _ _ few _ _ _ p.labelled p.inside p.new))
+    let q = searching_first _ _ few _ _ _ long p.labelled in
+    rw c.visit.ensures (left_none _ _ few _ _ q p.inside p.new (labelled_start _ _ few _ _ p.labelled p.inside p.new))
 
 pub returns : goal.returns
 returns c =
@@ -25,5 +25,5 @@ returns c =
     let l = c.loop-head in
     let w = l.invariant.within in
     let e : l.head ≡ l.self.tail = omega arith in
-    cluster_labelled _ _ g.few _ l.self p.inside (labelled_start _ _ g.few _ _ _ p.labelled p.inside p.new)
+    cluster_labelled _ _ g.few _ l.self p.inside (labelled_start _ _ g.few _ _ p.labelled p.inside p.new)
     (subst (λ (k : ℕ). Left g.count (assigned g.values) c.args.start l.self k) e l.invariant)

@@ -7,13 +7,13 @@ use Rattle.std.proofs.Common.{ap, not}
 use native.Mathlib.Omega.{arith}
 use lib.Dec.{T}
 use Rattle.clusters.proofs.Search.visit_neighbours.Goals as goal
-use Rattle.clusters.proofs.Search.visit_neighbours.Goals.{then-not-self-neighbour+then-internal_edge, else-not-self-neighbour, else-not-self-neighbour-via-then-not-self-neighbour+else-internal_edge, else-not-self-neighbour-via-else-not-self-neighbour}
+use Rattle.clusters.proofs.Search.visit_neighbours.Goals.{then-is_none+then-internal_edge, else-is_none, else-is_none-via-then-is_none+else-internal_edge, else-is_none-via-else-is_none}
 
 pub visit-requires : goal.visit-requires
 visit-requires c =
     let few = c.args.graph.now.few in
     let l = c.loop-neighbour in
-    let r = room_left _ _ few _ l.self l.invariant.searching l.neighbour (omega arith) (T_of _ (ap not c.if-not-self-neighbour.true)) in
+    let r = room_left _ _ few _ l.self l.invariant.searching l.neighbour (omega arith) (T_of _ (ap not (c.is_none.ensures ∙ ap not c.if-is_none.true))) in
     (omega arith, omega arith)
 
 pub loop-neighbour-preserved : goal.loop-neighbour-preserved
@@ -22,15 +22,15 @@ loop-neighbour-preserved c =
     let s = c.loop-neighbour.self in
     let f = c.loop-neighbour.invariant in
     let j = c.loop-neighbour.neighbour in
-    elim c.if-not-self-neighbour.branch [
-      | then-not-self-neighbour+then-internal_edge w ↦
+    elim c.if-is_none.branch [
+      | then-is_none+then-internal_edge w ↦
           rw (w.self-is, w.visit.ensures)
-          (further_more _ _ few _ _ _ s j f c.requires.inside c.requires.label (omega arith) w.if-not-self-neighbour.true
+          (further_more _ _ few _ _ _ s j f c.requires.inside c.requires.label (omega arith) (c.is_none.ensures ∙ ap not w.if-is_none.true)
           (sym w.internal_edge.ensures ∙ w.if-internal_edge.true))
-      | else-not-self-neighbour w ↦
+      | else-is_none w ↦
           rw w.self-is (further_kept _ _ few _ _ _ s j f (λ x.
-          elim w.else-not-self-neighbour.branch [
-            | else-not-self-neighbour-via-then-not-self-neighbour+else-internal_edge v ↦ absurd (subst T (sym v.internal_edge.ensures ∙ v.if-internal_edge.false) x)
-            | else-not-self-neighbour-via-else-not-self-neighbour v ↦ T_of (visited_at s.visited j) v.if-not-self-neighbour.false
+          elim w.else-is_none.branch [
+            | else-is_none-via-then-is_none+else-internal_edge v ↦ absurd (subst T (sym v.internal_edge.ensures ∙ v.if-internal_edge.false) x)
+            | else-is_none-via-else-is_none v ↦ T_of (visited_at s.labels j) (c.is_none.ensures ∙ ap not v.if-is_none.false)
           ]))
     ]

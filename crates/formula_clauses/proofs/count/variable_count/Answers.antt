@@ -5,4 +5,4 @@ use Rattle.formula_clauses.proofs.count.variable_count.Goals as goal
 
 pub returns : goal.returns
 unfolding variable_count
-returns c = c.variables_before.ensures.0 ∙ ap (variables_before c.args.good.request) c.row_count.ensures.0
+returns c = c.variables_before.ensures ∙ ap (variables_before c.args.good.request) c.row_count.ensures.0

@@ -13,7 +13,7 @@ pub transitivity_at-requires : goal.transitivity_at-requires
 transitivity_at-requires c =
     let e = transitivity_length (2 * c.args.good.request.r + 2) in
     let t = c.transitivity_count-nets.ensures.0 in
-    (omega arith, omega arith)
+    omega arith
 
 pub returns-then-number-nets : goal.returns-then-number-nets
 returns-then-number-nets c =
@@ -26,7 +26,7 @@ choice_at-requires c =
     let e = choices_length c.args.good.request.n (2 * c.args.good.request.r + 2) c.args.good.request.r in
     let t = c.transitivity_count-nets.ensures.0 in
     let h = c.requires in
-    (omega arith, omega arith, omega arith, omega arith)
+    (omega arith, omega arith)
 
 pub returns : goal.returns
 returns c =

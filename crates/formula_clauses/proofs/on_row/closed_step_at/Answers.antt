@@ -12,7 +12,7 @@ use Rattle.formula_clauses.proofs.on_row.closed_step_at.Goals as goal
 pub entered-requires : goal.entered-requires
 entered-requires c =
     let d = digits_low _ _ _ _ c.requires in
-    (omega arith, omega arith, omega arith, omega arith, omega arith)
+    (omega arith, omega arith, omega arith)
 
 pub returns : goal.returns
 returns c = (
@@ -21,3 +21,9 @@ returns c = (
       ∙ sym (closed_at _ _ _ _ _ _ _ c.requires c.literal_with-v.ensures),
   negative_is c.negative.ensures,
 )
+
+pub chosen-requires : goal.chosen-requires
+chosen-requires c =
+    let d = digits_low _ _ _ _ c.requires in
+    let n = c.literal_with-v.ensures in
+    (omega arith, n.low)

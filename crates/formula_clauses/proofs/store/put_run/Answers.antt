@@ -1,11 +1,9 @@
--- The loop's invariant: the first i literals of the run are written from `at` on. Assumes nothing.
-use mathlib.Core.Path.{◌≡◌, refl, sym, ap, ◌∙◌, subst}
-use mathlib.Core.List.{List, [], ◌∷◌, ◌++◌}
-use Prim.Native.Nat.{ℕ, ◌+◌, ◌≤◌, ◌<◌}
-use native.Mathlib.Omega.{arith}
-use lib.IntN.{ℤ}
-use lib.ListN.{length}
-use borrow.Author.Rules.{rules}
+-- One literal more is one literal written on; at the end all entries are written. Assumes nothing.
+use Rattle.std.proofs.Common.{◌≡◌, refl, ℕ, ◌+◌, ◌≤◌, ◌<◌, length, sym, ap, ◌∙◌, subst, arith}
+use mathlib.Core.List.{List}
+use mir.Syntax.{w32}
+use mir.Facts.{to_z-of_z}
+use borrow.Author.Rules.{sfits_of}
 use Rattle.prelude.specs.Written.{written}
 use Rattle.prelude.specs.Written.Laws.{written_none}
 use Rattle.cnf.specs.Cnf.{pos, signed_of}
@@ -14,37 +12,39 @@ use Rattle.formula.specs.Clause.{run}
 use Rattle.formula.specs.Count.{variables_most}
 use Rattle.formula.proofs.ClauseLaws.{run_none, run_more, run_length_lem, low_at}
 use Rattle.formula_clauses.specs.Store.{signs}
-use Rattle.formula_clauses.specs.Store.Laws.{signs_more}
+use Rattle.formula_clauses.specs.Store.Laws.{written_all, signs_length, signs_last}
+use Rattle.formula_clauses.proofs.store.put_run.Goals.{After-entry-1}
 use Rattle.formula_clauses.proofs.store.put_run.Goals as goal
 
--- one literal more
-run_step : (old now next : List ℤ) (at first i to : ℕ) (x : Literal) → at + i < length old → to ≡ at + i → x ≡ pos (first + i)
-    → now ≡ written old at (signs (run first i)) → next ≡ written now to (signed_of x ∷ [])
-    → next ≡ written old at (signs (run first (i + 1)))
-run_step old now next at first i to x h e f g n =
-    let l = run_length_lem first i in
-    signs_more old now next at to (run first i) (x ∷ []) (omega arith) (omega arith) g n
-    ∙ ap (λ (c : List Literal). written old at (signs c)) (ap (λ (y : Literal). run first i ++ (y ∷ [])) f ∙ sym (run_more first i))
+-- the next variable is one of a request
+next : (c : After-entry-1) → c.args.first + c.loop-i.i ≤ variables_most
+next c = low_at c.args.first (length c.args.entries.now) c.loop-i.i c.requires c.loop-i-test.true
 
 pub loop-i-init : goal.loop-i-init
-loop-i-init c = (search rules, refl, rw run_none (sym (written_none _ _)))
+loop-i-init c = rw run_none (sym (written_none _ _))
+
+pub overflow_cast-i : goal.overflow_cast-i
+overflow_cast-i c = let l = next c in omega arith
 
 pub overflow_add-first : goal.overflow_add-first
-overflow_add-first c =
-    let l = low_at c.args.first c.args.count c.loop-i.i c.requires.0 (omega arith) in
-    omega arith
+overflow_add-first c = let l = next c in omega arith
 
-pub put-to-requires : goal.put-to-requires
-put-to-requires c =
-    let i = c.loop-i.i in (
-      subst (λ (x : Literal). x.variable ≤ variables_most) (sym c.positive.ensures)
-          (low_at c.args.first c.args.count i c.requires.0 (omega arith)),
-      omega arith,
-    )
+pub signed-requires : goal.signed-requires
+signed-requires c =
+    let l = next (goal.at.signed-requires c).After-entry-1 in
+    subst (λ (x : Literal). x.variable < 1000000) (sym c.positive.ensures) (omega arith)
 
 pub loop-i-preserved : goal.loop-i-preserved
-loop-i-preserved c = (
-  omega (arith, c.put-to.ensures.0),
-  c.put-to.auto.literals ∙ c.loop-i.invariant.1,
-  run_step _ _ _ c.args.at c.args.first c.loop-i.i _ _ (omega arith) c.loop-i.invariant.0 c.positive.ensures c.loop-i.invariant.2 c.put-to.ensures.1,
-)
+loop-i-preserved c =
+    let first = c.args.first in
+    let i = c.loop-i.i in
+    signs_last _ _ _ i (run first i) (pos (first + i)) _ (sym (run_length_lem first i)) c.loop-i-test.true
+    (to_z-of_z {w = w32} (sfits_of {w = w32} c.signed.type_inv) ∙ c.signed.ensures ∙ ap signed_of c.positive.ensures) c.loop-i.invariant refl
+    ∙ ap (λ (x : List Literal). written c.args.entries.now 0 (signs x)) (sym (run_more first i))
+
+pub returns : goal.returns
+returns c =
+    let n = length c.args.entries.now in
+    let i : c.loop-i.i ≡ n = omega arith in
+    c.loop-i.invariant ∙ ap (λ (k : ℕ). written c.args.entries.now 0 (signs (run c.args.first k))) i
+    ∙ written_all _ _ (signs_length (run c.args.first n) ∙ run_length_lem c.args.first n)

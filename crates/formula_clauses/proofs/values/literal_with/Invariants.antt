@@ -4,4 +4,4 @@ use Rattle.formula.specs.Values.{count_below, has_value}
 use Rattle.formula_clauses.proofs.values.literal_with.Given as goal
 
 abbrev pub invariant-loop-v : goal.invariant-loop-v
-invariant-loop-v l = l.number ≡ count_below (has_value l.n l.k l.value) l.v + l.rest
+invariant-loop-v l = l.number ≡ count_below (has_value l.fn.row.n l.fn.row.k l.value) l.v + l.rest

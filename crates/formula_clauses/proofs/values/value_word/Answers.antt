@@ -16,11 +16,11 @@ small n x h l =
 pub returns-then-value : goal.returns-then-value
 unfolding value_word
 returns-then-value c =
-    rw c.if-value.true (omega (arith, small c.args.n c.args.k c.requires.0 (omega arith)))
+    rw c.if-value.true (omega (arith, small c.args.row.n c.args.row.k (omega (arith, c.args.row.few.1)) (omega arith)))
 
 pub returns : goal.returns
 unfolding value_word
 returns c =
-    let n = c.args.n in
+    let n = c.args.row.n in
     rw (c.if-value.false, one_shifted n 32 (omega arith))
-    (omega (arith, small n (2 ^ n - 1 - c.args.k) c.requires.0 (omega arith)))
+    (omega (arith, small n (2 ^ n - 1 - c.args.row.k) (omega (arith, c.args.row.few.1)) (omega arith)))

@@ -10,22 +10,22 @@ use Rattle.lengths.proofs.parts.chosen_at.Goals as goal
 
 pub literal_length-requires : goal.literal_length-requires
 literal_length-requires c =
-    let f = c.args.row.fits in
-    let low = chosen_low c.args.row.n c.args.row.r (omega (arith, f.n_high)) (omega (arith, f.r_high)) c.args.s c.args.v (omega arith) (omega arith) in
-    omega (arith, c.chosen_number.ensures, low)
+    let f = c.args.row in
+    let low = chosen_low c.args.row.n c.args.row.r (omega (arith, f.few.1)) (omega (arith, f.few.2)) c.args.s c.args.v (omega arith) (omega arith) in
+    omega (arith, c.chosen.ensures, low)
 
 pub returns-then-literal_on-value : goal.returns-then-literal_on-value
 returns-then-literal_on-value c =
     let on-is : c.literal_on.result ≡ literal_on c.args.row.n c.args.row.k c.args.v = let a = c.args in
-    let f = a.row.fits in
-    c.literal_on.ensures ∙ literal_there a.row.n a.row.k a.v f.n_low f.n_high f.row_high c.requires.1 in
+    let f = a.row in
+    c.literal_on.ensures ∙ literal_there a.row.n a.row.k a.v f.few.0 f.few.1 f.there c.requires.1 in
     let a = c.args in
-    (c.literal_length.ensures.0 ∙ ap literal_length c.chosen_number.ensures ∙ chosen_is a.row.n a.row.r a.row.k a.s a.v a.value _ true on-is c.if-literal_on-value.true, c.literal_length.ensures.1)
+    (c.literal_length.ensures.0 ∙ ap literal_length c.chosen.ensures ∙ chosen_is a.row.n a.row.r a.row.k a.s a.v a.value _ true on-is c.if-literal_on-value.true, c.literal_length.ensures.1)
 
 pub returns : goal.returns
 returns c =
     let on-is : c.literal_on.result ≡ literal_on c.args.row.n c.args.row.k c.args.v = let a = c.args in
-    let f = a.row.fits in
-    c.literal_on.ensures ∙ literal_there a.row.n a.row.k a.v f.n_low f.n_high f.row_high c.requires.1 in
+    let f = a.row in
+    c.literal_on.ensures ∙ literal_there a.row.n a.row.k a.v f.few.0 f.few.1 f.there c.requires.1 in
     let a = c.args in
     (chosen_is a.row.n a.row.r a.row.k a.s a.v a.value _ false on-is c.if-literal_on-value.false, omega arith)

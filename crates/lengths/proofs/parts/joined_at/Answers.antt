@@ -9,4 +9,4 @@ pub literal_length-requires : goal.literal_length-requires
 literal_length-requires c =
     let a = c.args in
     let low = joined_low a.good.request.r a.a (1 + a.g) (omega (arith, a.good.good.r_high)) c.requires.0 (omega arith) (λ e. c.if-g-a.false (sym e)) in
-    omega (arith, c.joined_number.ensures, low)
+    omega (arith, c.joined.ensures, low)

@@ -10,7 +10,7 @@ pub returns : goal.returns
 unfolding link_length
 returns c =
     let most : 2 * c.args.row.r * (8 * c.args.row.r + c.run_length-ends.result + c.run_length-stop.result) ≤ 30 * 486 = let r = c.args.row.r in
-    mul-le-mul {n₁ = 2 * r} {m₁ = 8 * r + c.run_length-ends.result + c.run_length-stop.result} {n₂ = 30} {m₂ = 486} (omega (arith, c.args.row.fits.r_high)) (omega (arith, c.args.row.fits.r_high)) in
-    let whole : let a = c.args in 2 * a.row.r * (8 * a.row.r + c.run_length-ends.result + c.run_length-stop.result) + a.row.ends ≡ 2 * a.row.r * (8 * a.row.r + ends_length a.row.r a.at + stop_length a.row.r (a.at + (2 * a.row.r + 1))) + a.row.ends = let a = c.args in
-    ap₂ (λ (x y : ℕ). 2 * a.row.r * (8 * a.row.r + x + y) + a.row.ends) c.run_length-ends.ensures.0 c.run_length-stop.ensures.0 in
-    (ap₂ (λ (x y : ℕ). x - y) whole c.run_length.ensures.0, omega (arith, most, c.args.row.nets.ends_few))
+    mul-le-mul {n₁ = 2 * r} {m₁ = 8 * r + c.run_length-ends.result + c.run_length-stop.result} {n₂ = 30} {m₂ = 486} (omega (arith, c.args.row.few.2)) (omega (arith, c.args.row.few.2)) in
+    let whole : let a = c.args in 2 * a.row.r * (8 * a.row.r + c.run_length-ends.result + c.run_length-stop.result) + a.joined ≡ 2 * a.row.r * (8 * a.row.r + ends_length a.row.r a.at + stop_length a.row.r (a.at + (2 * a.row.r + 1))) + a.joined = let a = c.args in
+    ap₂ (λ (x y : ℕ). 2 * a.row.r * (8 * a.row.r + x + y) + a.joined) c.run_length-ends.ensures.0 c.run_length-stop.ensures.0 in
+    (ap₂ (λ (x y : ℕ). x - y) whole c.run_length.ensures.0, omega (arith, most, c.requires.1))

@@ -9,12 +9,6 @@ use Rattle.lengths.specs.Length.Laws.{joined_count}
 use Rattle.lengths.specs.Length.Groups.{network_size}
 use Rattle.lengths.proofs.parts.network_length.Goals as goal
 
-pub run_length-chosen-requires : goal.run_length-chosen-requires
-run_length-chosen-requires c =
-    let count : (c.network_variables-pairs.result ≡ P (terminals c.args.good.request.r)) × (c.network_variables-pairs.result ≤ 736) = joined_count c.args.good.request.r (omega (arith, c.args.good.good.r_high)) c.network_variables-pairs.ensures.0 in
-    let literals : c.args.good.request.r * (2 * c.args.good.request.n) ≤ 15 * 16 = mul-le-mul {n₁ = c.args.good.request.r} {m₁ = 2 * c.args.good.request.n} {n₂ = 15} {m₂ = 16} (omega (arith, c.args.good.good.r_high)) (omega (arith, c.args.good.good.n_high)) in
-    omega (arith, count.1, literals)
-
 pub returns : goal.returns
 returns c =
     let count : (c.network_variables-pairs.result ≡ P (terminals c.args.good.request.r)) × (c.network_variables-pairs.result ≤ 736) = joined_count c.args.good.request.r (omega (arith, c.args.good.good.r_high)) c.network_variables-pairs.ensures.0 in

@@ -10,7 +10,7 @@ pub returns : goal.returns
 unfolding step_length
 returns c =
     let most : c.args.row.n * (8 * c.args.row.r + c.run_length-ends.result) ≤ 8 * 300 = let a = c.args in
-    mul-le-mul {n₁ = a.row.n} {m₁ = 8 * a.row.r + c.run_length-ends.result} {n₂ = 8} {m₂ = 300} (omega (arith, c.args.row.fits.n_high)) (omega (arith, c.args.row.fits.r_high)) in
+    mul-le-mul {n₁ = a.row.n} {m₁ = 8 * a.row.r + c.run_length-ends.result} {n₂ = 8} {m₂ = 300} (omega (arith, c.args.row.few.1)) (omega (arith, c.args.row.few.2)) in
     let a = c.args in
     let m = most in
     let e = ap (λ (x : ℕ). a.row.n * (8 * a.row.r + x)) c.run_length-ends.ensures.0 in

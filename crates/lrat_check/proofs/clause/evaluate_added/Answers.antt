@@ -2,7 +2,7 @@
 use Rattle.std.proofs.Common.{◌-◌, sym, subst, arith}
 use Rattle.lrat.specs.declared.Found.{Found}
 use Rattle.lrat.specs.Words.{literals_at}
-use Rattle.lrat.proofs.BytesScan.{Scanning, scan_start, scan_end, scan_var, scan_more}
+use Rattle.lrat.proofs.BytesScan.{Scanning, scan_end, scan_var, scan_more}
 use Rattle.lrat_check.proofs.ClauseLaws.{spells_first, first_back, word_past, spells_inside, spells_there, spells_after, spelled_none, spelled_more, spells_on}
 use Rattle.lrat_check.proofs.clause.evaluate_added.Goals as goal
 
@@ -11,11 +11,6 @@ known_literal-word-requires c =
     let s = spells_first c.requires in
     let e = first_back c.args.at c.requires.first in
     record { there = rw e at (spells_there s); spaced = rw e at (spells_after s) }
-
-pub loop-word-init : goal.loop-word-init
-loop-word-init c =
-    let e = first_back c.args.at c.requires.first in
-    (c.args.at - 1, rw e c.known_literal-word.ensures, spells_first c.requires, scan_start c.requires.below)
 
 pub with-found-requires : goal.with-found-requires
 with-found-requires c =
@@ -43,7 +38,7 @@ loop-word-preserved c =
       c.loop-word.word.next,
       c.known_literal-word-in-loop-word.ensures,
       spells_on v.2 _ v.1 c.loop-word-test.true,
-      subst (λ (f : Found). Scanning c.args.values.stamp c.args.values.bytes.now (literals_at c.args.text.now (c.args.at - 1)) f (literals_at c.args.text.now c.loop-word.word.next))
+      subst (λ (f : Found). Scanning c.args.values.stamp.byte c.args.values.bytes.now (literals_at c.args.text.now (c.args.at - 1)) f (literals_at c.args.text.now c.loop-word.word.next))
           (sym c.with-found.ensures)
           (scan_more v.3 _ (spelled_more v.2 _ v.1 c.loop-word-test.true)),
     )

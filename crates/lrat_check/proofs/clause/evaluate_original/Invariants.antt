@@ -6,4 +6,4 @@ use Rattle.lrat_check.proofs.clause.evaluate_original.Given as goal
 
 abbrev pub invariant-loop-literal : goal.invariant-loop-literal
 invariant-loop-literal l =
-    Scanning l.values.stamp l.values.bytes.now (map literal_from l.literals) l.found (map literal_from (drop l.literal-index l.literals))
+    Scanning l.values.stamp.byte l.values.bytes.now (map literal_from l.literals) l.found (map literal_from (drop l.literal-index l.literals))

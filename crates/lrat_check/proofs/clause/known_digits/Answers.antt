@@ -29,9 +29,6 @@ loop-next-init c =
       small = tens_first _ _ (omega (arith, f.0, f.1, v));
     }
 
-pub bounds-text-next : goal.bounds-text-next
-bounds-text-next c = let e = known_ends _ _ _ (sign_low c.args.minus) c.requires.there c.requires.spaced in omega (arith, e.1, c.loop-next.invariant.here)
-
 pub overflow_mul-value : goal.overflow_mul-value
 overflow_mul-value c =
     let i = c.loop-next.invariant in

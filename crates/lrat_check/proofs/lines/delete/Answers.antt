@@ -4,13 +4,10 @@ use Rattle.std.proofs.Common.{false, refl, sym, ◌∙◌, arith}
 use Rattle.numeral.specs.Number.Words.{none_read, number_word}
 use Rattle.lrat.specs.Words.{plain_at}
 use Rattle.lrat.specs.Words.Laws.{plain_reads, word_ends, ids_none, ids_more}
-use Rattle.lrat.proofs.StateLaws.{deleting_start, delete_end, delete_gone, delete_original, delete_added, stands_inside}
+use Rattle.lrat.proofs.StateLaws.{delete_end, delete_gone, delete_original, delete_added, stands_inside}
 use Rattle.lrat.proofs.StateAdded.{additions_added}
 use Rattle.lrat_check.proofs.WordLaws.{deletes, ids_wordless}
 use Rattle.lrat_check.proofs.lines.delete.Goals as goal
-
-pub loop-id-init : goal.loop-id-init
-loop-id-init c = (c.requires.0, deleting_start, c.requires.1)
 
 pub returns-then-x-eq0 : goal.returns-then-x-eq0
 returns-then-x-eq0 c =

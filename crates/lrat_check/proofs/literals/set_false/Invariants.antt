@@ -3,8 +3,8 @@ use Rattle.std.proofs.Common.{◌-◌, length}
 use Rattle.lrat.specs.Bytes.Laws.{ReadingLiterals}
 use Rattle.lrat_check.proofs.literals.set_false.Given as goal
 
-abbrev pub invariant-loop-at : goal.invariant-loop-at
-invariant-loop-at l = ReadingLiterals l.stamp l.variables l.text l.at l.end l.good l.values
+abbrev pub invariant-loop-stamp : goal.invariant-loop-stamp
+invariant-loop-stamp l = ReadingLiterals l.stamp.byte l.variables l.text l.at l.end l.good l.values
 
-abbrev pub decreases-loop-at : goal.decreases-loop-at
-decreases-loop-at l = length l.text - l.end
+abbrev pub decreases-loop-stamp : goal.decreases-loop-stamp
+decreases-loop-stamp l = length l.text - l.end

@@ -6,10 +6,10 @@ use Prim.Native.Nat.{ℕ, ◌+◌, ◌-◌, ◌≤◌}
 use lib.ListN.{length}
 use Rattle.answer_read.proofs.values.Named.take.Given as goal
 
-abbrev pub invariant-loop-w : goal.invariant-loop-w
-invariant-loop-w l =
-    (l.p ≤ length l.text) × (f : ℕ) × (length l.text ≤ f + l.p)
+abbrev pub invariant-loop-p : goal.invariant-loop-p
+invariant-loop-p l =
+    (f : ℕ) × (length l.text ≤ f + l.p)
     × (named_from f l.self.top l.self.keep l.text l.p l.values ≡ named_from (length l.text) l.self.top l.self.keep l.text l.at l.initial.values)
 
-abbrev pub decreases-loop-w : goal.decreases-loop-w
-decreases-loop-w l = length l.text - l.p
+abbrev pub decreases-loop-p : goal.decreases-loop-p
+decreases-loop-p l = length l.text - l.p

@@ -37,7 +37,7 @@ returns-then-x-self c =
     let named = stands_named _ _ _ _ c.requires.standing in
     let inside = s.store.originals.inside (c.args.x - 1) (omega (arith, named, c.if-x-self.true)) in
     c.evaluate_original.ensures
-    ∙ ap (found_in c.args.values.stamp c.args.values.bytes.now)
+    ∙ ap (found_in c.args.values.stamp.byte c.args.values.bytes.now)
     (original_part s.store.count s.store.literals.now s.store.pairs.now s.store.text.now s.added.now c.args.x named c.if-x-self.true inside)
 
 pub overflow_mul-k-2 : goal.overflow_mul-k-2
@@ -62,5 +62,5 @@ evaluate_added-requires c =
 pub returns : goal.returns
 returns c =
     c.evaluate_added.ensures
-    ∙ ap (found_in c.args.values.stamp c.args.values.bytes.now)
+    ∙ ap (found_in c.args.values.stamp.byte c.args.values.bytes.now)
     (added_is c.args.self.store.count c.args.self.store.literals.now c.args.self.store.pairs.now c.args.self.store.text.now c.args.self.added.now c.args.x _ c.if-x-self.false refl)

@@ -1,6 +1,5 @@
 -- By what is found of its clause. Assumes nothing.
-use Rattle.std.proofs.Common.{not, refl, sym, ◌∙◌, arith}
-use Rattle.lrat.proofs.BytesScan.{byte_minus}
+use Rattle.std.proofs.Common.{refl, sym, ◌∙◌, arith}
 use Rattle.lrat.proofs.StateLaws.{formula_in_length, clause_below, found_below, hint_gone, hint_conflict, hint_other, hint_unset}
 use Rattle.lrat_check.proofs.clause.Clauses.hint.Goals as goal
 
@@ -14,7 +13,7 @@ pub bounds-values-variable : goal.bounds-values-variable
 bounds-values-variable c =
     let s = c.args.self in
     let b = found_below _ _ _ _ _ _ (clause_below _ _ _ _ _ _ _ _ s.store.originals s.additions (sym c.if-not-stands.false ∙ c.stands.ensures)) c.in-Unset.ensures in
-    omega (arith, b, c.requires.values_len.0)
+    omega (arith, b, c.requires.values_len)
 
 pub returns-in-AllFalse-clause-after : goal.returns-in-AllFalse-clause-after
 returns-in-AllFalse-clause-after c =
@@ -33,5 +32,5 @@ returns-in-Unset-clause-after c =
     let s = c.args.self in
     let b = found_below _ _ _ _ _ _ (clause_below _ _ _ _ _ _ _ _ s.store.originals s.additions (sym c.if-not-stands.false ∙ c.stands.ensures)) c.in-Unset.ensures in
     let h = hint_unset _ _ _ _ _ _ _ c.requires.during_line
-    (rw (formula_in_length s.store.count s.store.literals.now s.store.pairs.now) (sym c.if-not-stands.false ∙ c.stands.ensures)) _ c.evaluate.ensures _ refl _ _ c.in-Unset.is (omega (arith, b, c.requires.values_len.0)) in
-    rw (c.from.ensures, byte_minus (not c.in-Unset.minus)) h
+    (rw (formula_in_length s.store.count s.store.literals.now s.store.pairs.now) (sym c.if-not-stands.false ∙ c.stands.ensures)) _ c.evaluate.ensures _ refl _ _ c.in-Unset.is (omega (arith, b, c.requires.values_len)) in
+    rw c.of.ensures h

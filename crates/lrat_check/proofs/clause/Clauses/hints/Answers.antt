@@ -1,12 +1,9 @@
 -- The invariant is Hinting: all hints end as those that are left do. Assumes nothing.
 use Rattle.std.proofs.Common.{refl, sym, ap, arith}
-use Rattle.lrat.proofs.StateLaws.{hints_bad, hinting_start, hinting_ended, hints_end, hinting_more}
+use Rattle.lrat.proofs.StateLaws.{hints_bad, hinting_ended, hints_end, hinting_more}
 use Rattle.lrat.specs.Words.{Run}
 use Rattle.lrat_check.proofs.WordLaws.{id_past, place_none, place_is}
 use Rattle.lrat_check.proofs.clause.Clauses.hints.Goals as goal
-
-pub loop-id-init : goal.loop-id-init
-loop-id-init c = hinting_start _ _ _ _ _ _ _ c.requires.during_line
 
 pub loop-id-smaller : goal.loop-id-smaller
 loop-id-smaller c =

@@ -10,9 +10,6 @@ pub loop-s-init : goal.loop-s-init
 unfolding each
 loop-s-init c = added_none _
 
-pub put_switch-requires : goal.put_switch-requires
-put_switch-requires c = (omega arith, omega (arith, c.loop-s.invariant.long))
-
 pub loop-s-preserved : goal.loop-s-preserved
 loop-s-preserved c =
     added_as (sym (each_more c.loop-s.s (switch_text c.args.w))) (omega arith) (added_then c.loop-s.invariant c.put_switch.ensures)
