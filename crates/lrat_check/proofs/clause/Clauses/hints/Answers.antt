@@ -1,7 +1,6 @@
 -- The invariant is Hinting: all hints end as those that are left do. Assumes nothing.
-use Rattle.std.proofs.Common.{refl, sym, ap, arith}
+use Rattle.std.proofs.Common.{refl, sym, arith}
 use Rattle.lrat.proofs.StateLaws.{hints_bad, hinting_ended, hints_end, hinting_more}
-use Rattle.lrat.specs.Words.{Run}
 use Rattle.lrat_check.proofs.WordLaws.{id_past, place_none, place_is}
 use Rattle.lrat_check.proofs.clause.Clauses.hints.Goals as goal
 
@@ -9,10 +8,6 @@ pub loop-id-smaller : goal.loop-id-smaller
 loop-id-smaller c =
     let s = c.in_ok-id.ensures.some in
     let p = id_past _ _ s.0 _ s.1 in omega (arith, p.0, p.1)
-
-pub returns-in_err-id-clause-read : goal.returns-in_err-id-clause-read
-returns-in_err-id-clause-read c =
-    rw c.from_residual.ensures (hints_bad c.loop-id.invariant (ap (λ (r : Run). r.next) (c.in_err-id.ensures.none refl)) _ refl)
 
 pub returns-then-id-eq0-clause-read : goal.returns-then-id-eq0-clause-read
 returns-then-id-eq0-clause-read c =
