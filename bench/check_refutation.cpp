@@ -4,11 +4,17 @@
 //   check_refutation FILE n table r m ...      real refutations, five words for each
 //   check_refutation --long FILE n table r m   texts from 10 kB to 16 MB made from one, by tests/host/long_refutation.hpp
 //   check_refutation --short-lines             a text of 60,000 lines of two literals each, at the largest number of variables
+//   check_refutation --gaps FILE n table r m ...   refutations whose ids follow one another, each as it is and with its ids made ones
+//                                              with gaps, by tests/host/gapped.hpp
+//   check_refutation --checks FILE n table r m COUNT   has the library check a text COUNT times: to count instructions by callgrind,
+//                                              as the difference between COUNT 1 and 0
 //
 // Prints for each text its bytes and lines, both times, nanoseconds for each byte, and the ratio of the times. For the long texts,
-// each about four times as long as the one before, also the growth: nanoseconds for each byte over those of the text before.
+// each about four times as long as the one before, also the growth: nanoseconds for each byte over those of the text before. For
+// texts with gaps also both times over those of the text without them; all forms of a text are timed in turn.
 #include <cstdint>
 #include <cstdio>
+#include <cstdlib>
 #include <string>
 #include <vector>
 
@@ -16,6 +22,7 @@
 #include "../tests/second/clauses.hpp"
 #include "entries.hpp"
 #include "files.hpp"
+#include "gapped.hpp"
 #include "long_refutation.hpp"
 #include "plain_clauses.hpp"
 #include "plain_refutation.hpp"
@@ -53,7 +60,7 @@ struct Slices {
         second::counts(q, V, C, T);
         literals.resize(T);
         pairs.resize(2 * C);
-        added.resize(2 * lines);
+        added.resize(3 * lines);
         values.resize(V + 1);
     }
 };
@@ -82,29 +89,39 @@ Outcome proved_check(const Request& q, const std::string& text, Slices& slices) 
     return outcome;
 }
 
-// Milliseconds of both.
+// Milliseconds of both, and what they answered.
 struct Times {
     double plain = 1e9;
     double proved = 1e9;
+    Outcome plain_outcome = {0, 0};
+    Outcome proved_outcome = {0, 0};
+
+    // One turn: each time is the best so far.
+    void turn(const Request& q, const std::string& text, Slices& slices) {
+        plain = std::min(plain, milliseconds([&] { plain_outcome = plain_check(q, text, slices); }));
+        proved = std::min(proved, milliseconds([&] { proved_outcome = proved_check(q, text, slices); }));
+    }
 };
+
+bool same(const Outcome& a, const Outcome& b) { return a.number == b.number && a.count == b.count; }
+
+// Prints the start of a text's row.
+void print(const std::string& name, const std::string& text, const Times& best) {
+    std::printf("%-31s %9zu %7zu %9.3f %9.3f %6.2f %6.2f %6.2f", name.c_str(), text.size(), lines_in(text), best.plain, best.proved,
+                nanoseconds_a_byte(best.plain, text.size()), nanoseconds_a_byte(best.proved, text.size()),
+                best.proved / best.plain);
+    const Outcome &plain = best.plain_outcome, &proved = best.proved_outcome;
+    if (same(plain, proved)) return;
+    std::printf("  they differ: plain %u %u, proved %u %u", plain.number, plain.count, proved.number, proved.count);
+    all_same = false;
+}
 
 // Times both on one text and prints the start of its row.
 Times compare(const std::string& name, const Request& q, const std::string& text) {
-    const std::size_t lines = lines_in(text);
-    Slices slices(q, lines);
+    Slices slices(q, lines_in(text));
     Times best;
-    Outcome plain = {0, 0}, proved = {0, 0};
-    for (int turn = turns_for(text.size()); turn > 0; turn--) {
-        best.plain = std::min(best.plain, milliseconds([&] { plain = plain_check(q, text, slices); }));
-        best.proved = std::min(best.proved, milliseconds([&] { proved = proved_check(q, text, slices); }));
-    }
-    std::printf("%-31s %9zu %7zu %9.3f %9.3f %6.2f %6.2f %6.2f", name.c_str(), text.size(), lines, best.plain, best.proved,
-                nanoseconds_a_byte(best.plain, text.size()), nanoseconds_a_byte(best.proved, text.size()),
-                best.proved / best.plain);
-    if (plain.number != proved.number || plain.count != proved.count) {
-        std::printf("  they differ: plain %u %u, proved %u %u", plain.number, plain.count, proved.number, proved.count);
-        all_same = false;
-    }
+    for (int turn = turns_for(text.size()); turn > 0; turn--) best.turn(q, text, slices);
+    print(name, text, best);
     return best;
 }
 
@@ -123,6 +140,36 @@ void real_texts(int count, char** words) {
     for (; count >= 5; count -= 5, words += 5) {
         compare(name_of(words + 1), request_of(words + 1), text_of_file(words[0]));
         std::printf("\n");
+    }
+}
+
+// One text as it is and with gaps of each kind. The outcome is the same for all.
+void with_gaps(const std::string& name, const Request& q, const std::string& text) {
+    unsigned V = 0, C = 0, T = 0;
+    second::counts(q, V, C, T);
+    std::vector<std::string> texts = {text};
+    for (const Gaps gaps : all_gaps) texts.push_back(gapped(text, C, gaps));
+    std::vector<Times> best(texts.size());
+    Slices slices(q, lines_in(text));
+    for (int turn = 3 * turns_for(text.size()); turn > 0; turn--) {
+        for (std::size_t i = 0; i < texts.size(); i++) best[i].turn(q, texts[i], slices);
+    }
+    for (std::size_t i = 0; i < texts.size(); i++) {
+        print(i == 0 ? name : std::string("  gaps: ") + gaps_name(all_gaps[i - 1]), texts[i], best[i]);
+        if (i > 0) std::printf("  %6.2f %6.2f", best[i].plain / best[0].plain, best[i].proved / best[0].proved);
+        if (!same(best[i].plain_outcome, best[0].plain_outcome)) {
+            std::printf("  another answer than without gaps");
+            all_same = false;
+        }
+        std::printf("\n");
+    }
+}
+
+void texts_with_gaps(int count, char** words) {
+    std::printf("refutations with gaps between their ids\n");
+    head("  over those without gaps C++, proved");
+    for (; count >= 5; count -= 5, words += 5) {
+        with_gaps(name_of(words + 1), request_of(words + 1), text_of_file(words[0]));
     }
 }
 
@@ -168,12 +215,24 @@ void short_lines() {
     std::printf("\n");
 }
 
+// Checks a text so often.
+void checks(char** words) {
+    const Request q = request_of(words + 1);
+    const std::string text = text_of_file(words[0]);
+    Slices slices(q, lines_in(text));
+    for (int i = std::atoi(words[5]); i > 0; i--) all_same = proved_check(q, text, slices).number == 0 && all_same;
+}
+
 } // namespace
 
 int main(int count, char** words) {
     const std::string mode = count > 1 ? words[1] : "";
     if (mode == "--long" && count == 7) {
         long_texts(words + 2);
+    } else if (mode == "--gaps") {
+        texts_with_gaps(count - 2, words + 2);
+    } else if (mode == "--checks" && count == 8) {
+        checks(words + 2);
     } else if (mode == "--short-lines") {
         short_lines();
     } else {

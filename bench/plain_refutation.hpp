@@ -1,6 +1,7 @@
 // A plain C++ check of a refutation, to time the proved one against: the same formula, the same lent slices, the same rules, the
 // clauses that a text adds left in the text. A line is looked at twice, first its form and then what it does, when its numbers can
-// be read without tests; the variables that it set are kept in a list and unset afterwards.
+// be read without tests; the variables that it set are kept in a list and unset afterwards. A record is found by its id: the place that
+// it has where no number is left out comes first, or the last place where that is past it; then the places below are halved.
 #pragma once
 
 #include <cstddef>
@@ -14,7 +15,7 @@ public:
     Check(const std::uint8_t *text, std::size_t size, const std::int32_t *literals, const std::uint32_t *pairs,
           std::uint32_t clauses, std::uint32_t variables, std::uint32_t *added, std::size_t places, std::uint8_t *values)
         : text_(text), end_(text + size), lines_end_(end_), literals_(literals), pairs_(pairs), clauses_(clauses),
-          variables_(variables), added_(added), places_(places), values_(values) {
+          variables_(variables), added_(added), places_(places), values_(values), last_(clauses) {
         set_.reserve(variables + 1);
         // A line that has its newline is looked at without tests for the text's end; one that has none is a fault in any case.
         while (lines_end_ > text_ && lines_end_[-1] != '\n') --lines_end_;
@@ -66,10 +67,26 @@ private:
     // The next of the numbers of a line whose form is good, after its space.
     static std::uint32_t next(const std::uint8_t *&p) { return read(++p); }
 
-    bool stands(std::uint32_t id) const {
-        if (id <= clauses_) return true;
-        const std::uint32_t k = id - clauses_ - 1;
-        return k < count_ && added_[2 * k + 1] != 0;
+    // The record of an added clause that stands, by its id above C; null where there is none. Ids rise from C + 1 or above, so the
+    // record with the id C + k is one of the first k.
+    std::uint32_t *record(std::uint32_t id) const {
+        std::uint32_t high = id - clauses_ < count_ ? id - clauses_ : count_;
+        if (high == 0) return nullptr;
+        std::uint32_t *found = added_ + 3 * static_cast<std::size_t>(high - 1);
+        if (*found != id) {
+            std::uint32_t low = 0;
+            --high;
+            while (low < high) {
+                const std::uint32_t middle = low + (high - low) / 2;
+                if (added_[3 * static_cast<std::size_t>(middle)] < id)
+                    low = middle + 1;
+                else
+                    high = middle;
+            }
+            found = added_ + 3 * static_cast<std::size_t>(low);
+            if (*found != id) return nullptr;
+        }
+        return found[2] != 0 ? found : nullptr;
     }
 
     void assign(std::uint32_t variable, std::uint8_t value) {
@@ -87,7 +104,7 @@ private:
         return true;
     }
 
-    // 0 the conflict, 20, or -1 where a literal was set true.
+    // 0 the conflict, 19, 20, or -1 where a literal was set true.
     int hint(std::uint32_t id) {
         std::uint32_t unit = 0;
         bool negative = false;
@@ -97,9 +114,10 @@ private:
             for (; l < stop; ++l)
                 if (!look(static_cast<std::uint32_t>(*l < 0 ? -*l : *l), *l < 0, unit, negative)) return 20;
         } else {
-            const std::uint32_t k = id - clauses_ - 1;
-            const std::uint8_t *p = text_ + added_[2 * k];
-            const std::uint8_t *const stop = p + added_[2 * k + 1];
+            const std::uint32_t *const entries = record(id);
+            if (entries == nullptr) return 19;
+            const std::uint8_t *p = text_ + entries[1];
+            const std::uint8_t *const stop = p + entries[2];
             while (p < stop) {
                 const bool minus = *p == '-';
                 if (minus) ++p;
@@ -115,7 +133,7 @@ private:
     }
 
     int addition(std::uint32_t id, const std::uint8_t *first, const std::uint8_t *last, const std::uint8_t *hints) {
-        if (id != clauses_ + count_ + 1) return 17;
+        if (id <= last_) return 17;
         const std::uint8_t *p = first;
         for (;;) {
             const bool negative = p[1] == '-';
@@ -126,19 +144,20 @@ private:
             assign(variable, negative ? 2 : 1);
         }
         const bool empty = last == first;
-        if (!empty && places_ < 2 * static_cast<std::size_t>(count_) + 2) return 22;
+        if (!empty && places_ < 3 * static_cast<std::size_t>(count_) + 3) return 22;
         p = hints;
         for (;;) {
             const std::uint32_t named = next(p);
             if (named == 0) return 21;
-            if (!stands(named)) return 19;
             const int code = hint(named);
-            if (code == 20) return 20;
+            if (code > 0) return code;
             if (code == 0) break;
         }
         if (empty) return 0;
-        added_[2 * count_] = static_cast<std::uint32_t>(first + 1 - text_);
-        added_[2 * count_ + 1] = static_cast<std::uint32_t>(last - (first + 1));
+        std::uint32_t *const entries = added_ + 3 * static_cast<std::size_t>(count_);
+        entries[0] = last_ = id;
+        entries[1] = static_cast<std::uint32_t>(first + 1 - text_);
+        entries[2] = static_cast<std::uint32_t>(last - (first + 1));
         ++count_;
         return -1;
     }
@@ -159,8 +178,10 @@ private:
             for (;;) {
                 const std::uint32_t named = next(p);
                 if (named == 0) return -1;
-                if (!stands(named)) return 19;
-                if (named > clauses_) added_[2 * (named - clauses_ - 1) + 1] = 0;
+                if (named <= clauses_) continue;
+                std::uint32_t *const entries = record(named);
+                if (entries == nullptr) return 19;
+                entries[2] = 0;
             }
         }
         const std::uint8_t *const first = p;
@@ -185,6 +206,7 @@ private:
     std::uint32_t *added_;
     std::size_t places_;
     std::uint8_t *values_;
+    std::uint32_t last_;
     std::uint32_t count_ = 0;
     std::vector<std::uint32_t> set_;
 };

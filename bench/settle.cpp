@@ -18,7 +18,7 @@
 
 namespace {
 
-// How many pairs a refutation adds: all its lines but the deletions and the empty clause.
+// How many records a refutation needs: one for each of its lines but the deletions and the empty clause.
 std::size_t additions_in(const std::string& text) {
     std::size_t others = 1;
     for (std::size_t place = 0; (place = text.find(" d ", place)) != std::string::npos; place++) others++;
@@ -45,7 +45,7 @@ int main(int count, char** words) {
     unsigned V = 0, C = 0, T = 0;
     if (q.r > 0) second::counts({q.n, q.table, q.r - 1, q.m, q.free}, V, C, T);
     std::vector<std::int32_t> literals(T);
-    std::vector<std::uint32_t> pairs(2 * C), added(2 * additions_in(refutation));
+    std::vector<std::uint32_t> pairs(2 * C), added(3 * additions_in(refutation));
     std::vector<std::uint8_t> values(V + 1);
     std::uint8_t network[24];
     std::uint32_t verdict = 0, number = 0;

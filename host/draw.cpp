@@ -75,7 +75,7 @@ const std::map<unsigned, std::string> refusals{
     {14, "too little memory is lent for the variables' values"},
     {15, "the refutation is over the limit of 16,777,215 bytes"},
     {16, "a line of the refutation has not its form"},
-    {17, "a clause in the refutation has not the next number"},
+    {17, "a clause in the refutation has too low a number"},
     {18, "a clause in the refutation has a wrong literal"},
     {19, "the refutation names a clause that does not stand"},
     {20, "a hint in the refutation sets nothing"},

@@ -1,6 +1,7 @@
 // Turns a DRAT proof into a refutation in the form of document 01.
 //
-//   lrat [--limit BYTES] [--rounds N] [--progress SECONDS] CLAUSES PROOF... REFUTATION
+//   lrat [--limit BYTES] [--rounds N] [--keep-ids] [--progress SECONDS]
+//        CLAUSES PROOF... REFUTATION
 //
 // CLAUSES is the clause file. The proof is that of the files PROOF, one after
 // the other, each in the binary or the text form, for example clauses that were
@@ -10,6 +11,17 @@
 // 2 wrong words; 3 the refutation is longer than BYTES, 16,777,215 if not given;
 // 130 and 143 when ended by SIGINT and SIGTERM. REFUTATION changes only with 0.
 // With --progress a line on standard error says each SECONDS how far it is.
+//
+// With --keep-ids each line has the id that its clause has in a solver which
+// numbers its clauses one by one: C plus the clause's place, from 1, among the
+// additions of the files PROOF together, where every addition counts. Clauses
+// that are left out leave gaps. A clause that stands already when it is added
+// again goes by its first id. The line of the empty clause has the id of the
+// proof's empty clause, or the next after all additions where the proof has
+// none, or that of a clause which has lost all its literals. Where an id would
+// be above 999,999,999, the exit status is 1. Since ids have to rise, the lines
+// stay in the proof's order: there is one pass, whatever N is, and no line for a
+// pair of hints.
 //
 // This program is outside the proved core, and nothing rests on it: the proved
 // check reads what it writes and refuses it where it errs.
@@ -50,6 +62,7 @@ using namespace lrat;
 struct Options {
     std::size_t limit = 16777215;
     unsigned rounds = 6;
+    bool keep_ids = false;
     unsigned progress = 0;  // seconds; 0 for none
     std::string clauses;
     std::vector<std::string> proofs;
@@ -58,8 +71,10 @@ struct Options {
 
 [[noreturn]] void usage() {
     std::fprintf(stderr,
-                 "usage: lrat [--limit BYTES] [--rounds N] [--progress SECONDS] CLAUSES PROOF... "
-                 "REFUTATION\n");
+                 "usage: lrat [--limit BYTES] [--rounds N] [--keep-ids] [--progress SECONDS] "
+                 "CLAUSES PROOF... REFUTATION\n"
+                 "  --keep-ids  the ids are those of the proof's clauses, numbered one by one, "
+                 "in one pass\n");
     std::exit(2);
 }
 
@@ -73,7 +88,12 @@ unsigned option_number(const char* word) {
 Options read_words(int argc, char** argv) {
     Options options;
     int at = 1;
-    for (; at + 1 < argc && std::strncmp(argv[at], "--", 2) == 0; at += 2) {
+    while (at + 1 < argc && std::strncmp(argv[at], "--", 2) == 0) {
+        if (std::strcmp(argv[at], "--keep-ids") == 0) {
+            options.keep_ids = true;
+            at++;
+            continue;
+        }
         const unsigned number = option_number(argv[at + 1]);
         if (std::strcmp(argv[at], "--limit") == 0) {
             options.limit = number;
@@ -84,8 +104,10 @@ Options read_words(int argc, char** argv) {
         } else {
             usage();
         }
+        at += 2;
     }
     if (argc - at < 3) usage();
+    if (options.keep_ids) options.rounds = 1;
     options.clauses = argv[at];
     options.proofs.assign(argv + at + 1, argv + argc - 1);
     options.refutation = argv[argc - 1];
@@ -118,7 +140,9 @@ class Passes {
             if (!trimmed) too_long("in", pass);
             shorten(refutation_);
             if (fits()) return refutation_;
-            if (double(refutation_.bytes()) > reach(pass)) too_long("after", pass);
+            if (options_.keep_ids || double(refutation_.bytes()) > reach(pass)) {
+                too_long("after", pass);
+            }
             // the first text is the longest, and pairs of it are soon gone
             if (pass == 1 && options_.rounds > 1 && !pairs_may_do()) continue;
             refutation_ = with_shared_pairs(std::move(refutation_), progress_);
@@ -135,7 +159,9 @@ class Passes {
     }
 
     // The longest text of a pass that may still come below the limit. No text
-    // of three times the limit was ever seen to.
+    // of three times the limit was ever seen to. Where ids are kept, no pairs
+    // follow, and what they would leave is room for what lines lose after the
+    // trimming, which was 3 % at most.
     double reach(unsigned pass) const {
         double left = pairs_leave;
         for (unsigned next = pass + 1; next <= options_.rounds && left > 0.33; next++) {
@@ -153,11 +179,13 @@ class Passes {
         }
         Clauses clauses(formula_, room);
         std::vector<Step> steps;
+        std::vector<std::uint32_t> ids;
         {
-            ProofReader reader(clauses, steps);
+            ProofReader reader(clauses, steps, options_.keep_ids ? &ids : nullptr);
             for (; !files.empty(); files.pop_front()) reader.read(files.front().bytes());
+            reader.finish();
         }
-        return trim(clauses, steps, 1);
+        return trim(clauses, steps, ids, 1);
     }
 
     // The lines of the last pass are the proof of this one.
@@ -171,11 +199,12 @@ class Passes {
             steps.push_back(Step(c, false));
         }
         refutation_ = Refutation(formula_);
-        return trim(clauses, steps, pass);
+        return trim(clauses, steps, {}, pass);
     }
 
-    bool trim(Clauses& clauses, std::vector<Step>& steps, unsigned pass) {
-        Trimmer trimmer(formula_, clauses, steps, progress_);
+    bool trim(Clauses& clauses, std::vector<Step>& steps, const std::vector<std::uint32_t>& ids,
+              unsigned pass) {
+        Trimmer trimmer(formula_, clauses, steps, ids, progress_);
         if (!trimmer.run(std::size_t(reach(pass)))) return false;
         refutation_ = trimmer.refutation();
         return true;

@@ -137,7 +137,7 @@ struct Slices {
         pairs_length = 2 * std::size_t(C);
         // a text above the limit is refused before any line is read
         if (refutation.length() <= NK_REFUTATION_LIMIT) {
-            added_length = 2 * adding_lines(refutation.view());
+            added_length = 3 * adding_lines(refutation.view());
         }
         literals.resize(literals_length + 1);
         pairs.resize(pairs_length + 1);

@@ -43,9 +43,9 @@
  *   7 the literals are too short, 8 the pairs, 14 the values, 15 the text is
  *   above 16,777,215 bytes;
  * then its lines are checked from the top, and the first fault counts:
- *   16 a line's form, 17 an id that isn't the next, 18 a literal outside +-V
- *   or a variable twice, 22 no place for the pair, 19 a clause that doesn't
- *   stand, 20 a hint that sets nothing, 21 no conflict;
+ *   16 a line's form, 17 an id not above C and the last added one, 18 a
+ *   literal outside +-V or a variable twice, 22 no place for the record, 19 a
+ *   clause that doesn't stand, 20 a hint that sets nothing, 21 no conflict;
  * and 23 when the text ends before the empty clause.
  *
  * Pointers may not be null. What they name may not overlap. A slice is a
@@ -69,10 +69,11 @@
  *   literals  T entries: at most 77,088, which is 308,352 bytes
  *   pairs     2C entries: at most 55,094, which is 220,376 bytes
  *   values    V + 1 bytes: at most 1,857
- *   added     two entries for each line of the text that adds a clause; a line
- *             whose second word is "d" adds none, nor does the empty clause.
- *             Twice the number of newlines is always enough, and a line that
- *             adds a clause has ten bytes or more: "7 1 0 5 0" and a newline
+ *   added     three entries, a record, for each line of the text that adds a
+ *             clause; a line whose second word is "d" adds none, nor does the
+ *             empty clause. Three times the number of newlines is always
+ *             enough, and a line that adds a clause has ten bytes or more:
+ *             "7 1 0 5 0" and a newline
  * Longer slices do no harm: entries past what is named here stand.
  * host/settle.cpp is an example.
  */
@@ -108,12 +109,12 @@ enum nk_refusal {
     NK_SHORT_VALUES = 14,       /* fewer than V + 1 values are lent */
     NK_LONG_REFUTATION = 15,    /* the refutation is above 16,777,215 bytes */
     NK_REFUTATION_LINE = 16,    /* a line of the refutation hasn't its form */
-    NK_NOT_NEXT_ID = 17,        /* an added clause's id is not the next one */
+    NK_BAD_ID = 17,             /* an added clause's id is not above C and every earlier one */
     NK_BAD_LITERAL = 18,        /* a literal outside +-V, or a variable twice */
     NK_CLAUSE_NOT_STANDING = 19, /* a hint or a deletion of a clause that doesn't stand */
     NK_HINT_SETS_NOTHING = 20,  /* a hint that is neither unit nor the conflict */
     NK_NO_CONFLICT = 21,        /* the hints are spent without a conflict */
-    NK_NO_PLACE = 22,           /* no two entries left in added */
+    NK_NO_PLACE = 22,           /* no three entries left in added */
     NK_NO_EMPTY_CLAUSE = 23,    /* the text ends before the empty clause */
     NK_BOTH_BITS = 24           /* a row with both bits, in the table and in the free rows */
 };
@@ -200,9 +201,9 @@ uint32_t nk_check_network(uint8_t n, uint16_t table, uint16_t free_rows, uint8_t
  * variables, C clauses and T literals in the file, the lent slices are:
  *   literals  at least T entries, the literals of all clauses
  *   pairs     at least 2C entries, offset and length of each clause in them
- *   added     any number of entries, two for each added clause: offset and
- *             length, in bytes of the text, of its literals; the length of a
- *             deleted one is 0
+ *   added     any number of entries, three for each added clause, its record:
+ *             its id, and offset and length, in bytes of the text, of its
+ *             literals; the length of a deleted one is 0
  *   values    at least V+1 bytes
  * What they hold before the call does not matter.
  *
@@ -210,13 +211,14 @@ uint32_t nk_check_network(uint8_t n, uint16_t table, uint16_t free_rows, uint8_t
  *    of any number of switches, has more than r switches.
  * 16 to 23: refused.
  *    In both cases the first T literals and 2C pairs are filled, *count is the
- *    number of added clauses, the first 2 * *count entries of added are theirs,
+ *    number of added clauses, the first 3 * *count entries of added are theirs,
  *    the first V+1 values are 0, and all other entries stand.
  * 2 to 5, 24, 7, 8, 14, 15: refused; the slices stand, *count is 0.
  *
  * Clause i of the file, from 1, is pairs[2i-1] literals from entry
- * pairs[2i-2] of literals on. The added clause with id C+1+j is the text's
- * added[2j+1] bytes from byte added[2j] on.
+ * pairs[2i-2] of literals on. Record j, from 0, is of the added clause with the
+ * id added[3j]: the text's added[3j+2] bytes from byte added[3j+1] on. Ids are
+ * above C and rise from record to record, by one or more.
  */
 uint32_t nk_check_refutation(uint8_t n, uint16_t table, uint16_t free_rows, uint8_t r, uint8_t m,
                             const uint8_t *text, size_t text_len, int32_t *literals,

@@ -9,6 +9,10 @@
 // A clause that is added while it stands already is not added again: its
 // copies are counted, and it is deleted with the last of them. The deletion of
 // a clause that isn't there changes nothing.
+//
+// The ids of a solver that numbers its clauses one by one go on from the clause
+// file's last: each addition of the proof has the next one, a copy and the empty
+// clause too. They can be kept; a copy then goes by the id of the first.
 #ifndef NORDKELCH_LRAT_PROOF_HPP
 #define NORDKELCH_LRAT_PROOF_HPP
 
@@ -190,11 +194,19 @@ class Standing {
     std::size_t count_ = 0;
 };
 
+// The greatest id that document 01 lets a line have.
+constexpr std::uint32_t greatest_id = 999999999;
+
 // Reads the proof into the clauses and the steps.
 class ProofReader {
   public:
-    ProofReader(Clauses& clauses, std::vector<Step>& steps)
-        : clauses_(clauses), steps_(steps), standing_(clauses) {
+    // Where a list is given for the ids, it gets those of the clauses added.
+    ProofReader(Clauses& clauses, std::vector<Step>& steps, std::vector<std::uint32_t>* ids)
+        : clauses_(clauses),
+          steps_(steps),
+          standing_(clauses),
+          ids_(ids),
+          last_id_(clauses.count()) {
         for (std::uint32_t c = 0; c < clauses.count(); c++) {
             literals_.assign(clauses.begin(c), clauses.end(c));
             stand(c);
@@ -219,6 +231,13 @@ class ProofReader {
         } else {
             read_text(proof);
         }
+    }
+
+    // After the last file: the ids get one more, for the empty clause, which is
+    // the next clause to be added. It is the proof's own, or, where the proof
+    // has no empty clause, the next.
+    void finish() {
+        if (ids_ != nullptr) ids_->push_back(empty_id_ != 0 ? empty_id_ : next_id());
     }
 
   private:
@@ -280,6 +299,7 @@ class ProofReader {
         if (!deletion) check_range(literals_, clauses_.last_variable());
         const std::uint32_t found = standing_.find(literals_);
         if (!deletion) {
+            if (ids_ != nullptr) take_id(found == none);
             const std::uint32_t c =
                 found != none ? found
                               : clauses_.add(literals_.data(), literals_.data() + literals_.size());
@@ -295,6 +315,20 @@ class ProofReader {
             }
         }
         literals_.clear();
+    }
+
+    // The id of an addition of the literals read; only a new clause needs it.
+    void take_id(bool is_new) {
+        const std::uint32_t id = next_id();
+        if (is_new) ids_->push_back(id);
+        if (literals_.empty() && empty_id_ == 0) empty_id_ = id;
+    }
+
+    std::uint32_t next_id() {
+        if (last_id_ >= greatest_id)
+            stop("an id would be above " + std::to_string(greatest_id) +
+                 ": the proof adds too many clauses");
+        return ++last_id_;
     }
 
     void stand(std::uint32_t c) { stand(c, standing_.find(literals_)); }
@@ -313,6 +347,9 @@ class ProofReader {
     Standing standing_;
     std::unordered_map<std::uint32_t, std::uint32_t> copies_;  // besides the first, where any
     std::vector<Literal> literals_;
+    std::vector<std::uint32_t>* ids_;  // null where they are not kept
+    std::uint32_t last_id_;
+    std::uint32_t empty_id_ = 0;  // of the first empty clause; 0 for none so far
 };
 
 }  // namespace lrat

@@ -1,8 +1,9 @@
 // A refutation: the lines that are to be written, and what makes them shorter.
 //
 // A line has its literals and its hints, which name clauses of the file and
-// earlier lines. Ids go on from the clause file's last, one by one, and no
-// deletions are written: the check's memory and time do not depend on them.
+// earlier lines. Ids go on from the clause file's last, one by one, unless each
+// line was given an id of its own. No deletions are written: the check's memory
+// and time do not depend on them.
 //
 // Trimming goes backward over a proof, and a line may lose literals after a
 // later line was given its hints. Those hints stay right, since a hint that was
@@ -61,9 +62,14 @@ class Refutation {
         hints_.add(hints.data(), hints.data() + hints.size());
     }
 
+    // Gives the line that was added last an id of its own. All lines have one
+    // then, above the clause file's ids, and they rise.
+    void give_id(std::uint32_t id) { ids_.push_back(id); }
+
     std::size_t literal_count() const { return lines_.total(); }
 
-    // The lines of another one, with their hints as they are.
+    // The lines of another one, with their hints as they are. Neither has ids
+    // of its own.
     void append(const Refutation& other) {
         for (std::uint32_t line = 0; line < other.line_count(); line++) {
             lines_.add(other.lines_.begin(line), other.lines_.end(line));
@@ -114,15 +120,18 @@ class Refutation {
             }
             now[line] = edit(line, literals, hints);
             if (now[line] != none) continue;
+            if (!ids_.empty()) ids_[kept] = ids_[line];
             now[line] = file_count() + kept++;
             line_list.put(literals);
             hint_list.put(hints);
         }
         line_list.finish();
         hint_list.finish();
+        if (!ids_.empty()) ids_.resize(kept);
     }
 
-    // The lines given, in this order. A hint of each comes before it.
+    // The lines given, in this order. A hint of each comes before it. The ids
+    // go on one by one.
     Refutation in_order(const std::vector<std::uint32_t>& order) const {
         std::vector<std::uint32_t> place(line_count(), none);
         Refutation result(*formula_);
@@ -176,11 +185,14 @@ class Refutation {
     }
 
   private:
-    static std::uint32_t id(std::uint32_t c) { return c + 1; }
+    std::uint32_t id(std::uint32_t c) const {
+        return c < file_count() || ids_.empty() ? c + 1 : ids_[c - file_count()];
+    }
 
     const Formula* formula_;
     ClauseList lines_;
     ClauseList hints_;
+    std::vector<std::uint32_t> ids_;  // of the lines; none where they go on one by one
 };
 
 // Follows the hints of lines, one line after another.

@@ -10,7 +10,8 @@
 // Propagation prefers the clauses that are used already, which keeps their
 // number low.
 //
-// A clause loses those of its literals that its own check did not use.
+// A clause loses those of its literals that its own check did not use. Where the
+// clauses of the proof have ids of their own, its line keeps the clause's.
 #ifndef NORDKELCH_LRAT_TRIM_HPP
 #define NORDKELCH_LRAT_TRIM_HPP
 
@@ -29,10 +30,13 @@ namespace lrat {
 
 class Trimmer {
   public:
-    Trimmer(const Formula& formula, Clauses& clauses, std::vector<Step>& steps, Progress& progress)
+    // The ids are those that a ProofReader kept, or none.
+    Trimmer(const Formula& formula, Clauses& clauses, std::vector<Step>& steps,
+            const std::vector<std::uint32_t>& ids, Progress& progress)
         : formula_(formula),
           clauses_(clauses),
           steps_(steps),
+          ids_(ids),
           progress_(progress),
           needed_(std::size_t(formula.last_variable) + 1, false) {}
 
@@ -67,6 +71,7 @@ class Trimmer {
                 hints.push_back(place[hints_.back()]);
             place[line.clause] = file_count + result.line_count();
             result.add_line(literals, hints);
+            if (!ids_.empty()) result.give_id(ids_[line.clause - file_count]);
         }
         return result;
     }
@@ -169,8 +174,8 @@ class Trimmer {
 
     // Counts the bytes of a line, so that a text which is far too long is known
     // before all of the proof is checked. The id of an added clause is not known
-    // by now, and counts as the first after the file's. A line with one hint is
-    // not written.
+    // by now, or not looked at, and counts as the first after the file's. A line
+    // with one hint is not written.
     void count_bytes(std::uint32_t c) {
         if (found_.size() == 1) return;
         const std::uint32_t first_id = formula_.clauses.count() + 1;
@@ -201,6 +206,7 @@ class Trimmer {
     const Formula& formula_;
     Clauses& clauses_;
     std::vector<Step>& steps_;
+    const std::vector<std::uint32_t>& ids_;
     Progress& progress_;
     std::vector<Line> lines_;
     std::deque<std::uint32_t> hints_;  // grows without being copied

@@ -22,13 +22,13 @@ struct Lengths {
     std::size_t values;
 };
 
-// The lengths that are just enough, with places for some added clauses. A
-// refused request has none.
+// The lengths that are just enough, with places for some added clauses: three
+// entries for the record of each. A refused request has none.
 inline Lengths exact_lengths(const Request& q, std::size_t additions) {
     unsigned V = 0, C = 0, T = 0;
-    if (second::refusal(q) != 0) return {0, 0, 2 * additions, 0};
+    if (second::refusal(q) != 0) return {0, 0, 3 * additions, 0};
     second::counts(q, V, C, T);
-    return {T, 2 * std::size_t(C), 2 * additions, std::size_t(V) + 1};
+    return {T, 2 * std::size_t(C), 3 * additions, std::size_t(V) + 1};
 }
 
 // What a slice holds before the call: random bits, small numbers, or all 0.

@@ -1,6 +1,7 @@
 // Long refutations made from a real one, for tests and benchmarks: its added
 // clauses are added again and again under new ids, each time with hints that
-// name a copy of the clause that was named at first.
+// name a copy of the clause that was named at first. The new ids follow one
+// another, or have gaps.
 #pragma once
 
 #include <cstddef>
@@ -9,6 +10,7 @@
 #include <vector>
 
 #include "../second/refutations.hpp"
+#include "gapped.hpp"
 
 class LongRefutation {
   public:
@@ -17,7 +19,8 @@ class LongRefutation {
     // or one of any round so far, far apart in the text, and none is deleted.
     enum class Hints { near, far };
 
-    // The lines of a refutation of the request. Its deletions are left out.
+    // The lines of a refutation of the request, whose ids follow one another. Its
+    // deletions are left out.
     LongRefutation(const second::Request& q, const std::string& refutation) {
         unsigned V = 0, T = 0;
         second::counts(q, V, clauses_, T);
@@ -35,8 +38,8 @@ class LongRefutation {
 
     // A refutation of at most so many bytes, and not much fewer. It has no
     // empty clause where one round is longer than that.
-    std::string text(std::size_t most, Hints hints) const {
-        Writer writer(*this, hints);
+    std::string text(std::size_t most, Hints hints, Gaps gaps = Gaps::none) const {
+        Writer writer(*this, hints, gaps);
         const std::size_t end = 16 + 12 * last_.ids.size();
         while (writer.text.size() + end < most) {
             const std::string line = writer.next_lines();
@@ -54,14 +57,16 @@ class LongRefutation {
     struct Writer {
         const LongRefutation& from;
         Hints hints;
+        GappedIds ids;
         std::string text;
         std::size_t added = 0;
         std::uint64_t state = 1;
 
-        Writer(const LongRefutation& from_, Hints hints_) : from(from_), hints(hints_) {}
+        Writer(const LongRefutation& from_, Hints hints_, Gaps gaps)
+            : from(from_), hints(hints_), ids(from_.clauses_, gaps) {}
 
         // The id of the clause number k of all that are added.
-        std::string id(std::size_t k) const { return std::to_string(from.clauses_ + k + 1); }
+        std::string id(std::size_t k) { return std::to_string(ids.id(k)); }
 
         // The line that adds the next clause; before it, now and then, a line
         // that deletes.
@@ -82,7 +87,7 @@ class LongRefutation {
         }
 
         // The empty clause, by the newest copies.
-        std::string last_line() const {
+        std::string last_line() {
             const std::size_t count = from.additions_.size(), round = added / count;
             std::string next = id(added) + " 0";
             for (int hint : from.last_.ids) {

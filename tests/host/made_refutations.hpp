@@ -1,5 +1,5 @@
 // Refutations for the comparison of checks: a small solver that writes down
-// what it learns, and ways to damage what it wrote.
+// what it learns, gaps put between the ids, and ways to damage what it wrote.
 #pragma once
 
 #include <algorithm>
@@ -11,6 +11,7 @@
 
 #include "../second/refutations.hpp"
 #include "checks.hpp"
+#include "gapped.hpp"
 
 namespace {
 
@@ -55,6 +56,11 @@ MadeLines made_lines_of(const std::string& text) {
                        Numbers(line.ids.begin(), line.ids.end())});
     }
     return all;
+}
+
+// The lines with gaps between the ids of their added clauses.
+MadeLines with_gaps(const MadeLines& lines, std::uint32_t C, Gaps gaps, std::uint64_t seed) {
+    return made_lines_of(gapped(text_of(lines), C, gaps, seed));
 }
 
 // How many lines add a clause that isn't empty.
@@ -284,7 +290,7 @@ class LineDamage {
             case 2: damage_hints(any_addition()); break;
             case 3:
             case 4: damage_literals(any_addition()); break;
-            case 5: damage_id(lines_[random_.below(lines_.size())]); break;
+            case 5: damage_id(any_line()); break;
             case 6: damage_order(); break;
             default: insert_deletion(); break;
         }
@@ -296,7 +302,7 @@ class LineDamage {
     // A line, an addition if one is found soon.
     MadeLine& any_addition() {
         for (unsigned round = 0; round < 10; round++) {
-            MadeLine& line = lines_[random_.below(lines_.size())];
+            MadeLine& line = any_line();
             if (!line.deletes) return line;
         }
         return lines_.back();
@@ -304,8 +310,14 @@ class LineDamage {
 
     std::int64_t any_id() {
         if (random_.below(30) == 0) return 999999999;
+        if (random_.below(2) == 0) return beside(any_line().id);
         return 1 + below(C_ + additions_in(lines_) + 3);
     }
+
+    MadeLine& any_line() { return lines_[random_.below(lines_.size())]; }
+
+    // The id, the number before it or the number after it.
+    std::int64_t beside(std::int64_t id) { return std::max<std::int64_t>(id + below(3) - 1, 0); }
 
     std::int64_t any_literal() {
         const std::int64_t x = 1 + below(V_);
@@ -372,16 +384,29 @@ class LineDamage {
     }
 
     void damage_id(MadeLine& line) {
-        switch (random_.below(7)) {
+        switch (random_.below(10)) {
             case 0: line.id++; break;
             case 1: line.id--; break;
             case 2: line.id = 0; break;
             case 3: line.id = 999999999; break;
             case 4: line.id = 1 + below(C_); break;
             case 5: line.id = any_id(); break;
+            case 6: line.id = any_line().id; break;
+            case 7:
+            case 8: raise_ids(line.id, 1 + below(random_.below(2) == 0 ? 3 : 1000)); break;
             default:
                 if (random_.below(4) == 0) line.id = -line.id;
                 break;
+        }
+    }
+
+    // Makes each id from this one on so much larger, in all lines.
+    void raise_ids(std::int64_t from, std::int64_t more) {
+        for (MadeLine& line : lines_) {
+            if (line.id >= from) line.id += more;
+            for (std::int64_t& id : line.ids) {
+                if (id >= from) id += more;
+            }
         }
     }
 
@@ -396,21 +421,18 @@ class LineDamage {
         }
     }
 
-    // Puts a copy of an addition behind another line, and gives it and all
-    // later lines the ids that they then need. Two clauses are then equal.
+    // Puts a copy of an addition behind another line, with the number after the
+    // last id there, and makes larger the ids from this number on. Two clauses are
+    // then equal.
     void repeat_addition(std::size_t from, std::size_t behind) {
         MadeLine copy = lines_[from];
         if (copy.deletes || copy.literals.empty()) return;
-        copy.id = std::int64_t(C_) + 1;
+        std::int64_t id = std::int64_t(C_) + 1;
         for (std::size_t i = 0; i <= behind; i++) {
-            if (!lines_[i].deletes && !lines_[i].literals.empty()) copy.id++;
+            if (!lines_[i].deletes && !lines_[i].literals.empty()) id = lines_[i].id + 1;
         }
-        for (std::size_t i = behind + 1; i < lines_.size(); i++) {
-            if (lines_[i].id >= copy.id) lines_[i].id++;
-            for (std::int64_t& id : lines_[i].ids) {
-                if (id >= copy.id) id++;
-            }
-        }
+        raise_ids(id, 1);
+        copy.id = id;
         lines_.insert(lines_.begin() + std::ptrdiff_t(behind) + 1, copy);
     }
 

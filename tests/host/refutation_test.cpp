@@ -7,11 +7,13 @@
 //                                                count for a file
 //   refutation_test --files FILE n table r m ... compares on these files (five
 //                                                words for each), which must be
-//                                                refutations, and on damaged
-//                                                copies of them
+//                                                refutations, on the same with
+//                                                gaps between their ids, and on
+//                                                damaged copies of all these
 //   refutation_test --long FILE n table r m      compares on texts of up to 16 MB
-//                                                made from the file's, and on
-//                                                damaged copies of them
+//                                                made from the file's, with gaps
+//                                                and without, and on damaged
+//                                                copies of them
 //
 // One line is printed for each group that fails. The last line is
 // "N passed, M failed", in groups. The exit status is 0 only if M is 0.
@@ -19,6 +21,7 @@
 #include <algorithm>
 #include <cstdint>
 #include <cstdio>
+#include <map>
 #include <string>
 #include <utility>
 #include <vector>
@@ -27,6 +30,7 @@
 #include "checks.hpp"
 #include "entries.hpp"
 #include "files.hpp"
+#include "gapped.hpp"
 #include "guarded.hpp"
 #include "lent.hpp"
 #include "long_refutation.hpp"
@@ -181,7 +185,7 @@ void group_p4_to_p7() {
     group_of_rows("P4 to P7", {{"P4", "7 0 5 6 1 2 4 0\n", 0, 0},
                                {"P5", "7 0 5 6 1 2 0\n", 21, 0},
                                {"P6", "7 0 5 6 3 0\n", 20, 0},
-                               {"P7", "8 0 5 6 1 2 4 0\n", 17, 0}});
+                               {"P7", "8 0 5 6 1 2 4 0\n", 0, 0}});
 }
 
 void group_whole_line() {
@@ -192,8 +196,9 @@ void group_whole_line() {
          {"letter before a variable twice", "7 1 1 0 x\n", 16, 0},
          {"letter behind a hint that doesn't stand", "7 0 99 x 0\n", 16, 0},
          {"letter behind a satisfied hint", "7 0 5 5 x 0\n", 16, 0},
-         {"end missing, id not the next", "8 0 5 6\n", 16, 0},
-         {"newline missing, id not the next", "8 0 5 6 0", 16, 0},
+         {"end missing, id not above C", "6 0 5 6\n", 16, 0},
+         {"newline missing, id not above C", "6 0 5 6 0", 16, 0},
+         {"newline missing, id not above the last", first + "7 0 5 6 7 0", 16, 1},
          {"newline missing, literal above V", "7 5 0 5 0", 16, 0},
          {"newline missing, hint that doesn't stand", "7 0 99 0", 16, 0},
          {"newline missing, hints spent", "7 0 0", 16, 0},
@@ -201,7 +206,7 @@ void group_whole_line() {
          {"deletion with a bad end", "7 d 99 x\n", 16, 0},
          {"deletion with a negative id behind", "7 d 99 -1 0\n", 16, 0},
          {"bad second line", first + "9 0 x\n", 16, 1},
-         {"refused line before a bad line", "8 0 0\nx\n", 17, 0},
+         {"refused line before a bad line", "6 0 0\nx\n", 17, 0},
          {"refused line before an unfinished line", "7 5 0 0\nx", 18, 0},
          {"hint behind the conflict that doesn't stand", "7 0 5 6 1 2 4 99 0\n", 0, 0},
          {"hint behind the conflict, nine digits", "7 0 5 6 1 2 4 999999999 0\n", 0, 0},
@@ -326,8 +331,10 @@ void group_numbers() {
                    {"id and 2^32", "4294967303 0 5 6 1 2 4 0\n", 16, 0},
                    {"id and 2^64", "18446744073709551623 0 5 6 1 2 4 0\n", 16, 0},
                    {"a thousand digits", std::string(1000, '7') + " 0 5 6 1 2 4 0\n", 16, 0},
-                   {"nine digits in the id", "999999999 0 5 6 1 2 4 0\n", 17, 0},
-                   {"nine digits in the id, 7 last", "100000007 0 5 6 1 2 4 0\n", 17, 0},
+                   {"nine digits in the id", "999999999 0 5 6 1 2 4 0\n", 0, 0},
+                   {"nine digits in the id, 6 last", "100000006 0 5 6 1 2 4 0\n", 0, 0},
+                   {"ten digits in a clause's id", "1000000000 -1 0 1 2 4 0\n", 16, 0},
+                   {"clause's id and 2^32", "4294967303 -1 0 1 2 4 0\n", 16, 0},
                    {"letter in the id", "7a 0 5 6 1 2 4 0\n", 16, 0},
                    {"two 0 in a word", "7 00 5 6 1 2 4 0\n", 16, 0},
                    {"-0 for the first 0", "7 -0 5 6 1 2 4 0\n", 16, 0},
@@ -370,19 +377,161 @@ void group_ids() {
                    {"id 0, a clause", "0 -1 0 1 2 4 0\n", 17, 0},
                    {"id 1", "1 0 5 6 1 2 4 0\n", 17, 0},
                    {"id C", "6 0 5 6 1 2 4 0\n", 17, 0},
-                   {"id C+2", "8 0 5 6 1 2 4 0\n", 17, 0},
-                   {"id C+2, a clause", "8 -1 0 1 2 4 0\n", 17, 0},
-                   {"17 before 18", "8 9 0 99 0\n", 17, 0},
-                   {"17 before 19", "8 0 99 0\n", 17, 0},
-                   {"17 before 20", "8 0 3 0\n", 17, 0},
-                   {"17 before 21", "8 0 0\n", 17, 0},
+                   {"id C, a clause", "6 -1 0 1 2 4 0\n", 17, 0},
+                   {"id C in the second line", first + "6 0 5 6 7 0\n", 17, 1},
+                   {"id 0 in the second line", first + "0 0 5 6 7 0\n", 17, 1},
+                   {"id C+2", "8 0 5 6 1 2 4 0\n", 0, 0},
+                   {"id C+2, a clause", "8 -1 0 1 2 4 0\n", 23, 1},
+                   {"17 before 18", "6 9 0 99 0\n", 17, 0},
+                   {"17 before 19", "6 0 99 0\n", 17, 0},
+                   {"17 before 20", "6 0 3 0\n", 17, 0},
+                   {"17 before 21", "6 0 0\n", 17, 0},
+                   {"17 before 18, not above the last", first + "7 9 0 99 0\n", 17, 1},
+                   {"17 before 19, not above the last", first + "7 0 99 0\n", 17, 1},
+                   {"17 before 20, not above the last", first + "7 0 3 0\n", 17, 1},
+                   {"17 before 21, not above the last", first + "7 0 0\n", 17, 1},
                    {"the next id", first + last, 0, 1},
-                   {"id twice", first + "7 0 5 6 7 0\n", 17, 1},
-                   {"id left out", first + "9 0 5 6 7 0\n", 17, 1},
+                   {"id twice, the empty clause", first + "7 0 5 6 7 0\n", 17, 1},
+                   {"id twice, a clause", first + "7 1 0 5 6 0\n", 17, 1},
+                   {"id left out", first + "9 0 5 6 7 0\n", 0, 1},
                    {"id free behind a deletion", first + "8 d 7 0\n8 0 5 6 1 2 4 0\n", 0, 1},
                    {"id of a deleted clause", first + "8 d 7 0\n7 0 5 6 1 2 4 0\n", 17, 1},
-                   {"a deletion takes no id", first + "8 d 1 0\n9 0 5 6 7 0\n", 17, 1},
-                   {"a large id of a deletion", "90 d 1 0\n91 0 5 6 1 2 4 0\n", 17, 0}});
+                   {"a deletion takes no id", first + "8 d 1 0\n8 0 5 6 7 0\n", 0, 1},
+                   {"a large id of a deletion", "90 d 1 0\n7 0 5 6 1 2 4 0\n", 0, 0},
+                   {"the largest id of a deletion, then a clause",
+                    "999999999 d 1 0\n" + first + "999999999 d 7 0\n8 0 5 6 1 2 4 0\n", 0, 1},
+                   {"a deletion's id is above, the clause's too", "50 d 1 0\n51 0 5 6 1 2 4 0\n",
+                    0, 0}});
+}
+
+// Ids that rise and leave numbers out. A clause with id 20, one with 30, one
+// with 40; 10, 15, 25 and so on are numbers that no clause has.
+const std::string first_20 = "20 -1 0 1 2 4 0\n";
+const std::string second_30 = "30 4 -3 0 5 0\n";
+const std::string third_40 = "40 4 -2 0 5 0\n";
+const std::string three = first_20 + second_30 + third_40;
+const std::string last_50 = "50 0 5 6 20 0\n";
+
+void group_gaps() {
+    group_of_rows(
+        "ids with gaps",
+        {{"a gap in front, the empty clause", "20 0 5 6 1 2 4 0\n", 0, 0},
+         {"a gap in front", first_20 + "21 0 5 6 20 0\n", 0, 1},
+         {"a gap between", first + "9 0 5 6 7 0\n", 0, 1},
+         {"gaps everywhere", three + last_50, 0, 3},
+         {"a large gap in front", "999999998 -1 0 1 2 4 0\n999999999 0 5 6 999999998 0\n", 0, 1},
+         {"a large gap before the empty clause", first + "999999999 0 5 6 7 0\n", 0, 1},
+         {"a large gap between", first + "500000000 1 0 5 6 0\n500000001 0 5 6 7 0\n", 0, 2},
+         {"one, then many left out",
+          first + "8 4 0 5 0\n10 4 -3 0 5 0\n1000 4 -2 0 5 0\n1001 0 5 6 7 0\n", 0, 4},
+         {"a d line's id is not one of the earlier ones",
+          "9 1 0 5 6 0\n50 d 9 0\n10 0 5 6 1 2 4 0\n", 0, 1},
+         {"no id is left above the largest", "999999999 -1 0 1 2 4 0\n999999999 0 5 6 1 2 4 0\n",
+          17, 1},
+         {"ten digits above the largest", "999999999 -1 0 1 2 4 0\n1000000000 0 5 6 1 2 4 0\n",
+          16, 1},
+         {"below the last, a number that was left out", first_20 + "10 1 0 5 6 0\n", 17, 1},
+         {"just below the last", first_20 + "19 1 0 5 6 0\n", 17, 1},
+         {"the last id again", first_20 + "20 1 0 5 6 0\n", 17, 1},
+         {"just above the last", first_20 + "21 1 0 5 6 0\n22 0 5 6 20 0\n", 0, 2},
+         {"the next id after C, behind a gap", first_20 + "7 1 0 5 6 0\n", 17, 1},
+         {"between two ids", first_20 + second_30 + "25 1 0 5 6 0\n", 17, 2},
+         {"an earlier id that is not the last", three + "20 1 0 5 6 0\n", 17, 3},
+         {"C behind gaps", three + "6 1 0 5 6 0\n", 17, 3},
+         {"the empty clause with the last id", first_20 + "20 0 5 6 20 0\n", 17, 1},
+         {"the empty clause below the last", first_20 + "19 0 5 6 20 0\n", 17, 1},
+         {"the empty clause at C", first_20 + "6 0 5 6 20 0\n", 17, 1},
+         {"the empty clause between two ids", first_20 + second_30 + "25 0 5 6 20 0\n", 17, 2},
+         {"the empty clause just above the last", first_20 + "21 0 5 6 20 0\n", 0, 1},
+         {"a good line after one with 17 is unread", first_20 + "20 4 0 5 0\n" + last_50, 17, 1},
+         {"the empty clause with the id of a clause", "9 1 0 5 6 0\n9 0 5 6 1 2 4 0\n", 17, 1}});
+}
+
+// A hint names a clause by its id. A number that no clause has doesn't stand,
+// wherever it lies.
+void group_hints_with_gaps() {
+    std::vector<Row> rows = {
+        {"the first", three + "50 0 5 6 20 0\n", 0, 3},
+        {"the second, satisfied", three + "50 0 5 30 0\n", 20, 3},
+        {"the third, satisfied", three + "50 0 5 40 0\n", 20, 3},
+        {"the second, two unset", three + "50 0 30 0\n", 20, 3},
+        {"the second sets a literal", three + "50 -4 0 6 1 2 4 0\n51 0 5 50 0\n", 0, 4},
+        {"all three in one line", three + "50 -4 3 2 0 30 0\n51 -4 3 2 0 40 0\n", 20, 3},
+        {"each is found as the conflict",
+         three + "50 -1 0 20 0\n51 4 -3 0 30 0\n52 4 -2 0 40 0\n53 0 5 6 50 0\n", 0, 6},
+        {"own id", three + "50 0 5 6 50 0\n", 19, 3},
+        {"an id of a later line", three + "50 0 5 6 60 0\n60 1 0 5 6 0\n", 19, 3},
+        {"an original clause, C", three + "50 0 5 6 1 2 4 0\n", 0, 3},
+        {"C+1, which no clause has", three + "50 0 7 0\n", 19, 3},
+        {"behind the conflict any number is unread", three + "50 0 5 6 20 25 0\n", 0, 3},
+        {"19 before 20, a number between", three + "50 0 25 3 0\n", 19, 3},
+        {"20 before 19, a number between", three + "50 0 3 25 0\n", 20, 3},
+        {"a number between, of a clause", three + "50 1 0 25 0\n", 19, 3},
+        {"place of the first in a dense count", three + "50 0 5 6 8 0\n", 19, 3},
+        {"0-based place", three + "50 0 5 6 9 0\n", 19, 3}};
+    for (const int id : {7, 10, 19, 21, 25, 29, 31, 35, 39, 41, 45, 50, 51, 99, 999999999}) {
+        const std::string number = std::to_string(id);
+        rows.push_back({"no clause has " + number, three + "50 0 " + number + " 0\n", 19, 3});
+        rows.push_back({"no clause has " + number + ", behind good hints",
+                        three + "50 0 5 6 " + number + " 0\n", 19, 3});
+    }
+    // one record, two, three, up to seven, with ids 10, 20, and so on: each is
+    // found, and the numbers beside each are not
+    std::string clauses;
+    for (int count = 1; count <= 7; count++) {
+        clauses += std::to_string(10 * count) + " -1 0 1 2 4 0\n";
+        const std::string start = clauses + std::to_string(10 * count + 1) + " 0 5 6 ";
+        for (int k = 0; k <= count + 1; k++) {
+            for (const int beside : {-1, 0, 1}) {
+                const int id = 10 * k + beside;
+                if (id <= 6) continue;
+                const bool stands = beside == 0 && k >= 1 && k <= count;
+                rows.push_back({std::to_string(id) + " of " + std::to_string(count),
+                                start + std::to_string(id) + " 0\n", stands ? 0 : 19,
+                                std::uint32_t(count)});
+            }
+        }
+    }
+    group_of_rows("hints, ids with gaps", rows);
+}
+
+void group_deletions_with_gaps() {
+    std::vector<Row> rows = {
+        {"the first", three + "50 d 20 0\n50 0 5 6 1 2 4 0\n", 0, 3},
+        {"the second", three + "50 d 30 0\n" + last_50, 0, 3},
+        {"the third", three + "50 d 40 0\n" + last_50, 0, 3},
+        {"the second and the third", three + "50 d 40 30 0\n" + last_50, 0, 3},
+        {"all three", three + "50 d 20 30 40 0\n50 0 5 6 1 2 4 0\n", 0, 3},
+        {"original ones beside", three + "50 d 1 30 6 0\n" + last_50, 0, 3},
+        {"the first, then as a hint", three + "50 d 20 0\n" + last_50, 19, 3},
+        {"the second, then as a hint", three + "50 d 30 0\n50 -4 3 0 30 0\n", 19, 3},
+        {"the last, then as a hint", three + "50 d 40 0\n50 -4 2 0 40 0\n", 19, 3},
+        {"the first twice", three + "50 d 20 20 0\n", 19, 3},
+        {"the second twice, in two lines", three + "50 d 30 0\n50 d 30 0\n", 19, 3},
+        {"the last twice, another between", three + "50 d 40 20 40 0\n", 19, 3},
+        {"a deleted id again", first_20 + "20 d 20 0\n20 -1 0 1 2 4 0\n", 17, 1},
+        {"a deleted id again, the empty clause", first_20 + "20 d 20 0\n20 0 5 6 1 2 4 0\n", 17,
+         1},
+        {"a deleted id again, behind later ones", three + "50 d 30 0\n30 4 -3 0 5 0\n", 17, 3},
+        {"a deleted id again, the last", three + "50 d 40 0\n40 4 -2 0 5 0\n", 17, 3},
+        {"all deleted, the last id again", three + "50 d 20 30 40 0\n40 0 5 6 1 2 4 0\n", 17, 3},
+        {"all deleted, below the last", three + "50 d 20 30 40 0\n35 0 5 6 1 2 4 0\n", 17, 3},
+        {"all deleted, above the last", three + "50 d 20 30 40 0\n41 0 5 6 1 2 4 0\n", 0, 3},
+        {"added again under another id",
+         first_20 + "20 d 20 0\n30 -1 0 1 2 4 0\n40 0 5 6 30 0\n", 0, 2},
+        {"added again under another id, the first as a hint",
+         first_20 + "20 d 20 0\n30 -1 0 1 2 4 0\n40 0 5 6 20 0\n", 19, 2},
+        {"the d line's id is that of a record", three + "30 d 1 0\n" + last_50, 0, 3},
+        {"the d line's id is between", three + "25 d 30 0\n" + last_50, 0, 3},
+        {"the d line's id is below C", three + "1 d 30 0\n" + last_50, 0, 3},
+        {"a d line with a high id before the clauses", "500 d 1 0\n" + three + last_50, 0, 3}};
+    for (const int id : {7, 10, 19, 21, 25, 29, 31, 35, 39, 41, 50, 99, 999999999}) {
+        const std::string number = std::to_string(id);
+        rows.push_back({"no clause has " + number, three + "50 d " + number + " 0\n", 19, 3});
+        rows.push_back({"behind a good one, no clause has " + number,
+                        three + "50 d 30 1 " + number + " 40 0\n", 19, 3});
+    }
+    group_of_rows("deletions, ids with gaps", rows);
 }
 
 void group_literals() {
@@ -481,7 +630,8 @@ void group_deletions() {
                     long_7 + long_8 + "9 -1 0 1 2 4 0\n9 d 9 7 0\n10 0 5 6 9 0\n", 19, 3}});
 }
 
-// "22 no place for the pair of a non-empty clause; then hints"
+// "22 no place for the pair of a non-empty clause; then hints": the record of a
+// clause has three entries.
 void group_places() {
     struct PlaceRow {
         std::string name;
@@ -495,35 +645,49 @@ void group_places() {
     const PlaceRow rows[] = {
         {"no slice, empty clause", good, 0, 0, 0},
         {"one entry, empty clause", good, 1, 0, 0},
+        {"two entries, empty clause", good, 2, 0, 0},
         {"no slice, deletion", "7 d 1 0\n" + good, 0, 0, 0},
         {"no slice", first, 0, 22, 0},
         {"one entry", first, 1, 22, 0},
-        {"two entries", first + last, 2, 0, 1},
+        {"two entries", first, 2, 22, 0},
         {"three entries", first + last, 3, 0, 1},
-        {"one place, two clauses", two, 2, 22, 1},
-        {"one place and an entry, two clauses", two, 3, 22, 1},
-        {"two places, two clauses", two, 4, 23, 2},
-        {"two places and an entry, two clauses", two, 5, 23, 2},
-        {"a deleted clause keeps its place", first + again, 2, 22, 1},
-        {"a deleted clause keeps its place, three entries", first + again, 3, 22, 1},
-        {"a place for the deleted one and the next", first + again, 4, 23, 2},
-        {"all places taken, empty clause", first + last, 2, 0, 1},
+        {"four entries", first + last, 4, 0, 1},
+        {"five entries", first + last, 5, 0, 1},
+        {"one place, two clauses", two, 3, 22, 1},
+        {"one place and an entry, two clauses", two, 4, 22, 1},
+        {"one place and two entries, two clauses", two, 5, 22, 1},
+        {"two places, two clauses", two, 6, 23, 2},
+        {"two places and an entry, two clauses", two, 7, 23, 2},
+        {"two places and two entries, two clauses", two, 8, 23, 2},
+        {"two places, three clauses with gaps", three, 6, 22, 2},
+        {"two places and two entries, three clauses with gaps", three, 8, 22, 2},
+        {"three places, three clauses with gaps", three + last_50, 9, 0, 3},
+        {"a place does not go by the id", "500 -1 0 1 2 4 0\n501 0 5 6 500 0\n", 3, 0, 1},
+        {"a deleted clause keeps its place", first + again, 3, 22, 1},
+        {"a deleted clause keeps its place, four entries", first + again, 4, 22, 1},
+        {"a deleted clause keeps its place, five entries", first + again, 5, 22, 1},
+        {"a place for the deleted one and the next", first + again, 6, 23, 2},
+        {"all places taken, empty clause", first + last, 3, 0, 1},
         {"16 before 22", "7 -1 0 1 2 4 x\n", 0, 16, 0},
         {"16 before 22, unfinished", "7 -1 0 1 2 4 0", 0, 16, 0},
-        {"17 before 22", "8 -1 0 1 2 4 0\n", 0, 17, 0},
+        {"17 before 22", "6 -1 0 1 2 4 0\n", 0, 17, 0},
+        {"17 before 22, not above the last", first + "7 -1 0 1 2 4 0\n", 3, 17, 1},
         {"18 before 22", "7 5 0 1 2 4 0\n", 0, 18, 0},
         {"18 before 22, twice", "7 1 1 0 1 2 4 0\n", 1, 18, 0},
         {"22 before 19", "7 -1 0 99 0\n", 0, 22, 0},
         {"22 before 20", "7 -1 0 3 0\n", 1, 22, 0},
+        {"22 before 20, two entries", "7 -1 0 3 0\n", 2, 22, 0},
         {"22 before 21", "7 -1 0 0\n", 0, 22, 0},
         {"22 before 19 in a later line", first + "8 -1 0 99 0\n", 3, 22, 1},
+        {"22 before 19 in a later line, two entries", first + "8 -1 0 99 0\n", 5, 22, 1},
+        {"19 in a later line", first + "8 -1 0 99 0\n", 6, 19, 1},
         {"19 of the empty clause", "7 0 99 0\n", 0, 19, 0},
         {"20 of the empty clause", "7 0 3 0\n", 0, 20, 0},
         {"21 of the empty clause", "7 0 0\n", 1, 21, 0},
         {"23 without a slice", "7 d 1 0\n", 0, 23, 0},
         {"empty text without a slice", "", 0, 23, 0},
     };
-    Group group("places for pairs");
+    Group group("places for records");
     for (const PlaceRow& row : rows) {
         for (unsigned round = 0; round < 6; round++) {
             Lengths lengths = enough(exact_lengths(p4, 0));
@@ -538,8 +702,8 @@ void group_places() {
 // Slices that are written out
 // ---------------------------------------------------------------------------
 
-// What a check past 15 leaves in slices of 12, 13, 5 and 6 entries that held
-// 77: the store of the request of P4, these added pairs, and V+1 zeros.
+// What a check past 15 leaves in slices of 12, 13, 8 and 6 entries that held
+// 77: the store of the request of P4, these records, and V+1 zeros.
 Slices filled_p4(const std::vector<std::uint32_t>& added) {
     return {{-2, 3, -1, -2, 3, -1, 2, -3, 4, -4, 1, 77},
             {0, 1, 1, 1, 2, 3, 5, 3, 8, 1, 9, 2, 77},
@@ -558,7 +722,7 @@ void group_free_rows() {
     Group group("free rows, by hand");
     const Request one = {1, 2, 0, 1, 1}, none = {1, 0, 0, 0, 3};
     const std::vector<std::int32_t> literals(4, 77);
-    const std::vector<std::uint32_t> pairs(5, 77), places(3, 77);
+    const std::vector<std::uint32_t> pairs(5, 77), places(4, 77);
     const std::vector<std::uint8_t> values(4, 77);
     struct FreeRow {
         Request q;
@@ -568,22 +732,25 @@ void group_free_rows() {
         std::vector<std::uint32_t> added;
     };
     const FreeRow rows[] = {
-        {one, "", 23, 0, {77, 77, 77}},
+        {one, "", 23, 0, {77, 77, 77, 77}},
         // the clauses are 1 (2) and 2 (-2 1), so (1) follows
-        {one, "3 1 0 1 2 0\n", 23, 1, {2, 1, 77}},
-        {one, "3 1 0 1 0\n", 21, 0, {77, 77, 77}},
-        {one, "3 3 0 1 2 0\n", 18, 0, {77, 77, 77}},
-        {one, "3 0 1 2 3 0\n", 19, 0, {77, 77, 77}},
-        {one, "3 0 1 2 0\n", 21, 0, {77, 77, 77}},
-        {one, "7 1 0 1 2 0\n", 17, 0, {77, 77, 77}},
-        {none, "", 23, 0, {77, 77, 77}},
-        {none, "1 0 0\n", 21, 0, {77, 77, 77}},
-        {none, "1 1 0 0\n", 21, 0, {77, 77, 77}},
-        {none, "1 1 0 1 0\n", 19, 0, {77, 77, 77}},
-        {none, "1 2 0 0\n", 18, 0, {77, 77, 77}},
-        {none, "2 0 0\n", 17, 0, {77, 77, 77}},
-        {none, "1 d 1 0\n", 19, 0, {77, 77, 77}},
-        {none, "1 d 0\n", 23, 0, {77, 77, 77}},
+        {one, "3 1 0 1 2 0\n", 23, 1, {3, 2, 1, 77}},
+        {one, "7 1 0 1 2 0\n", 23, 1, {7, 2, 1, 77}},
+        {one, "3 1 0 1 0\n", 21, 0, {77, 77, 77, 77}},
+        {one, "3 3 0 1 2 0\n", 18, 0, {77, 77, 77, 77}},
+        {one, "3 0 1 2 3 0\n", 19, 0, {77, 77, 77, 77}},
+        {one, "3 0 1 2 0\n", 21, 0, {77, 77, 77, 77}},
+        {one, "2 1 0 1 2 0\n", 17, 0, {77, 77, 77, 77}},
+        {none, "", 23, 0, {77, 77, 77, 77}},
+        {none, "1 0 0\n", 21, 0, {77, 77, 77, 77}},
+        {none, "1 1 0 0\n", 21, 0, {77, 77, 77, 77}},
+        {none, "1 1 0 1 0\n", 19, 0, {77, 77, 77, 77}},
+        {none, "1 2 0 0\n", 18, 0, {77, 77, 77, 77}},
+        {none, "2 0 0\n", 21, 0, {77, 77, 77, 77}},
+        {none, "0 0 0\n", 17, 0, {77, 77, 77, 77}},
+        {none, "0 1 0 0\n", 17, 0, {77, 77, 77, 77}},
+        {none, "1 d 1 0\n", 19, 0, {77, 77, 77, 77}},
+        {none, "1 d 0\n", 23, 0, {77, 77, 77, 77}},
     };
     for (const FreeRow& row : rows) {
         const bool is_one = row.q.table != 0;
@@ -600,7 +767,8 @@ void group_free_rows() {
     }
     // no clause needs no place
     check_number(group, none, "", {0, 0, 0, 2}, 23, 0, "no place for a clause");
-    check_number(group, none, "1 1 0 0\n", {0, 0, 1, 2}, 22, 0, "no place for a pair");
+    check_number(group, none, "1 1 0 0\n", {0, 0, 2, 2}, 22, 0, "no place for a record");
+    check_number(group, none, "1 1 0 0\n", {0, 0, 3, 2}, 21, 0, "a place for a record");
     check_number(group, none, "", {0, 0, 0, 1}, 14, 0, "one value");
     // the clauses of P4's request, with free rows beside its two
     for (const Request& q :
@@ -612,7 +780,7 @@ void group_free_rows() {
     group.finish();
 }
 
-// Each row has the added pairs that are left. Both must leave them.
+// Each row has the records that are left. Both must leave them.
 void group_slices_at_exit() {
     struct SliceRow {
         std::string name;
@@ -622,37 +790,60 @@ void group_slices_at_exit() {
         std::vector<std::uint32_t> added;
     };
     const std::string two = long_7 + long_8;
+    const std::vector<std::uint32_t> none(8, 77);
     const SliceRow rows[] = {
-        {"empty text", "", 23, 0, {77, 77, 77, 77, 77}},
-        {"P4", good, 0, 0, {77, 77, 77, 77, 77}},
-        {"bad form", "x", 16, 0, {77, 77, 77, 77, 77}},
-        {"one clause", first + last, 0, 1, {2, 2, 77, 77, 77}},
-        {"two clauses", two, 23, 2, {2, 7, 18, 6, 77}},
-        {"a longer id of a deletion before", "999999999 d 0\n" + first, 23, 1, {16, 2, 77, 77, 77}},
-        {"refused hints leave the place, 19", "7 -1 0 99 0\n", 19, 0, {77, 77, 77, 77, 77}},
-        {"refused hints leave the place, 20", "7 -1 0 3 0\n", 20, 0, {77, 77, 77, 77, 77}},
-        {"refused hints leave the place, 21", "7 -1 0 0\n", 21, 0, {77, 77, 77, 77, 77}},
-        {"refused literals leave the place", "7 -1 5 0 1 0\n", 18, 0, {77, 77, 77, 77, 77}},
-        {"refused id leaves the place", first + "7 -1 0 1 2 4 0\n", 17, 1, {2, 2, 77, 77, 77}},
-        {"no third place", two + "9 1 0 5 6 0\n", 22, 2, {2, 7, 18, 6, 77}},
-        {"deletion", two + "9 d 7 0\n", 23, 2, {2, 0, 18, 6, 77}},
-        {"both deleted", two + "9 d 8 7 0\n", 23, 2, {2, 0, 18, 0, 77}},
-        {"deleted twice", two + "9 d 7 7 8 0\n", 19, 2, {2, 0, 18, 6, 77}},
-        {"deletions before the 19 are kept", two + "9 d 8 99 7 0\n", 19, 2, {2, 7, 18, 0, 77}},
-        {"original ones stay", two + "9 d 1 8 2 0\n9 0 1 0\n", 21, 2, {2, 7, 18, 0, 77}},
-        {"bad form deletes nothing", two + "9 d 7 8 x\n", 16, 2, {2, 7, 18, 6, 77}},
-        {"two 0 delete nothing", two + "9 d 7 8 0 0\n", 16, 2, {2, 7, 18, 6, 77}},
-        {"an unfinished line deletes nothing", two + "9 d 7 8 0", 16, 2, {2, 7, 18, 6, 77}},
-        {"a negative id deletes nothing", two + "9 d 7 -8 0\n", 16, 2, {2, 7, 18, 6, 77}},
+        {"empty text", "", 23, 0, none},
+        {"P4", good, 0, 0, none},
+        {"P7", "8 0 5 6 1 2 4 0\n", 0, 0, none},
+        {"bad form", "x", 16, 0, none},
+        {"one clause", first + last, 0, 1, {7, 2, 2, 77, 77, 77, 77, 77}},
+        {"two clauses", two, 23, 2, {7, 2, 7, 8, 18, 6, 77, 77}},
+        {"a gap in front", first_20 + "30 0 5 6 20 0\n", 0, 1, {20, 3, 2, 77, 77, 77, 77, 77}},
+        {"a gap between", first + "90 4 -3 0 5 0\n", 23, 2, {7, 2, 2, 90, 18, 4, 77, 77}},
+        {"large ids", "100000000 -1 0 1 2 4 0\n999999999 4 0 5 0\n", 23, 2,
+         {100000000, 10, 2, 999999999, 33, 1, 77, 77}},
+        {"a longer id of a deletion before", "999999999 d 0\n" + first, 23, 1,
+         {7, 16, 2, 77, 77, 77, 77, 77}},
+        {"refused hints leave the place, 19", "7 -1 0 99 0\n", 19, 0, none},
+        {"refused hints leave the place, 20", "7 -1 0 3 0\n", 20, 0, none},
+        {"refused hints leave the place, 21", "7 -1 0 0\n", 21, 0, none},
+        {"refused literals leave the place", "7 -1 5 0 1 0\n", 18, 0, none},
+        {"refused id leaves the place", "6 -1 0 1 2 4 0\n", 17, 0, none},
+        {"refused id leaves the second place", first + "7 -1 0 1 2 4 0\n", 17, 1,
+         {7, 2, 2, 77, 77, 77, 77, 77}},
+        {"no third place", two + "9 1 0 5 6 0\n", 22, 2, {7, 2, 7, 8, 18, 6, 77, 77}},
+        {"deletion", two + "9 d 7 0\n", 23, 2, {7, 2, 0, 8, 18, 6, 77, 77}},
+        {"both deleted", two + "9 d 8 7 0\n", 23, 2, {7, 2, 0, 8, 18, 0, 77, 77}},
+        {"deletion, ids with gaps", first_20 + second_30 + "9 d 30 0\n", 23, 2,
+         {20, 3, 2, 30, 19, 0, 77, 77}},
+        {"both deleted, ids with gaps", first_20 + second_30 + "9 d 20 30 0\n", 23, 2,
+         {20, 3, 0, 30, 19, 0, 77, 77}},
+        {"a number between deletes nothing", first_20 + second_30 + "9 d 20 25 30 0\n", 19, 2,
+         {20, 3, 0, 30, 19, 4, 77, 77}},
+        {"a deleted id that comes again", first_20 + second_30 + "9 d 30 0\n30 4 0 5 0\n", 17, 2,
+         {20, 3, 2, 30, 19, 0, 77, 77}},
+        {"deleted twice", two + "9 d 7 7 8 0\n", 19, 2, {7, 2, 0, 8, 18, 6, 77, 77}},
+        {"deletions before the 19 are kept", two + "9 d 8 99 7 0\n", 19, 2,
+         {7, 2, 7, 8, 18, 0, 77, 77}},
+        {"original ones stay", two + "9 d 1 8 2 0\n9 0 1 0\n", 21, 2,
+         {7, 2, 7, 8, 18, 0, 77, 77}},
+        {"bad form deletes nothing", two + "9 d 7 8 x\n", 16, 2, {7, 2, 7, 8, 18, 6, 77, 77}},
+        {"two 0 delete nothing", two + "9 d 7 8 0 0\n", 16, 2, {7, 2, 7, 8, 18, 6, 77, 77}},
+        {"an unfinished line deletes nothing", two + "9 d 7 8 0", 16, 2,
+         {7, 2, 7, 8, 18, 6, 77, 77}},
+        {"a negative id deletes nothing", two + "9 d 7 -8 0\n", 16, 2,
+         {7, 2, 7, 8, 18, 6, 77, 77}},
         {"deletions are kept at the end", two + "9 d 7 0\n" + "9 0 5 6 1 2 4 0\n", 0, 2,
-         {2, 0, 18, 6, 77}},
-        {"unread text deletes nothing", first + last + "9 d 7 0\n", 0, 1, {2, 2, 77, 77, 77}},
-        {"place not used again", first + "8 d 7 0\n8 1 0 5 6 0\n", 23, 2, {2, 0, 25, 1, 77}},
+         {7, 2, 0, 8, 18, 6, 77, 77}},
+        {"unread text deletes nothing", first + last + "9 d 7 0\n", 0, 1,
+         {7, 2, 2, 77, 77, 77, 77, 77}},
+        {"place not used again", first + "8 d 7 0\n8 1 0 5 6 0\n", 23, 2,
+         {7, 2, 0, 8, 25, 1, 77, 77}},
     };
     Group group("slices at exit, by hand");
     for (const SliceRow& row : rows) {
         const Slices lent = {std::vector<std::int32_t>(12, 77), std::vector<std::uint32_t>(13, 77),
-                             std::vector<std::uint32_t>(5, 77), std::vector<std::uint8_t>(6, 77)};
+                             std::vector<std::uint32_t>(8, 77), std::vector<std::uint8_t>(6, 77)};
         const Outcome outcome = check_same(group, p4, row.text, lent);
         group.check(outcome.number == row.number, row.name, "second: number");
         group.check(outcome.count == row.count, row.name, "second: count");
@@ -661,21 +852,39 @@ void group_slices_at_exit() {
     group.finish();
 }
 
-// "an id above C+a doesn't stand", whatever the slice held before: here the
-// pairs of clauses that the text has, or of parts of it.
-void group_prior_pairs() {
-    Group group("pairs in the added slice before the check");
+// Only the records that the check wrote are looked at, whatever the slice held
+// before: here records of clauses that the text has, or of parts of it, and ids
+// that would keep the text's own from being above the last.
+void group_prior_records() {
+    Group group("records in the added slice before the check");
+    const std::uint32_t high = 0xFFFFFFFF;
     const std::vector<std::uint32_t> priors[] = {
-        {2, 2, 2, 2, 2, 2}, {0, 1, 0, 1, 0, 1}, {2, 2, 17, 1, 19, 1}, {0, 0, 0, 0, 0, 0},
-        {0xFFFFFFFF, 0xFFFFFFFF, 0xFFFFFFFF, 0xFFFFFFFF, 1, 0xFFFFFFFF}};
+        // 8 2 1 of "7 4 0 5 0" is the literal 4, and of "7 -1 0 1 2 4 0" a minus
+        {8, 2, 1, 8, 2, 1, 8, 2, 1},
+        {7, 2, 1, 8, 2, 1, 9, 2, 1},
+        {7, 2, 2, 8, 2, 2, 9, 2, 2},
+        {9, 2, 2, 8, 2, 2, 7, 2, 2},
+        {7, 0, 1, 8, 0, 1, 9, 0, 1},
+        {7, 2, 0, 8, 17, 1, 9, 19, 1},
+        {10, 2, 2, 20, 2, 2, 30, 2, 2},
+        {999999999, 2, 2, 999999999, 2, 2, 999999999, 2, 2},
+        {0, 0, 0, 0, 0, 0, 0, 0, 0},
+        {7, 7, 7, 7, 7, 7, 7, 7, 7},
+        {high, high, high, high, high, high, 1, high, high}};
     const Row rows[] = {{"hint", "7 0 7 0\n", 19, 0},
+                        {"hint of the first line", "7 4 0 8 0\n", 19, 0},
                         {"hint behind others", "7 -1 0 1 2 7 0\n", 19, 0},
                         {"later hint", "7 0 8 0\n", 19, 0},
+                        {"hint of a large id", "7 0 999999999 0\n", 19, 0},
                         {"own id", first + "8 1 0 8 0\n", 19, 1},
                         {"hint in the second line", first + "8 0 5 6 9 0\n", 19, 1},
+                        {"hint with a gap", first + "30 0 5 6 20 0\n", 19, 1},
+                        {"hint behind two records", three + "50 0 5 6 7 0\n", 19, 3},
                         {"deletion", "7 d 7 0\n", 19, 0},
                         {"deletion of the second", first + "8 d 8 0\n", 19, 1},
-                        {"all good", first + last, 0, 1}};
+                        {"deletion with a gap", first + "8 d 20 0\n", 19, 1},
+                        {"all good", first + last, 0, 1},
+                        {"all good with gaps", three + last_50, 0, 3}};
     for (const std::vector<std::uint32_t>& prior : priors) {
         for (const Row& row : rows) {
             Slices lent = any_slices(enough(exact_lengths(p4, 3)), row.text.size());
@@ -722,7 +931,7 @@ void check_short_slices(Group& group, const Request& q, const std::string& text)
         for (std::size_t pairs :
              {exact.pairs, less(exact.pairs), exact.pairs / 2, std::size_t(0)}) {
             for (std::size_t values : {exact.values, exact.values - 1, std::size_t(0)}) {
-                const Lengths lengths = {literals, pairs, random_numbers.below(5), values};
+                const Lengths lengths = {literals, pairs, random_numbers.below(8), values};
                 if (literals < exact.literals) {
                     check_number(group, q, text, lengths, 7, 0, name);
                 } else if (pairs < exact.pairs) {
@@ -828,36 +1037,80 @@ void group_parts_by_hand() {
     };
     const std::uint32_t high = 0xFFFFFFFF;
     const PartRow rows[] = {
-        {"first", {2, 3, 5, 4}, 6, 2, 7, 2, 3},
-        {"second", {2, 3, 5, 4}, 6, 2, 8, 5, 4},
-        {"whole text", {0, 10}, 6, 1, 7, 0, 10},
-        {"last byte", {9, 1}, 6, 1, 7, 9, 1},
-        {"id C", {2, 3, 5, 4}, 6, 2, 6, 0, 0},
-        {"id 1", {2, 3, 5, 4}, 6, 2, 1, 0, 0},
-        {"id 0", {2, 3, 5, 4}, 6, 2, 0, 0, 0},
-        {"id C+a+1", {2, 3, 5, 4}, 6, 1, 8, 0, 0},
-        {"a = 0", {2, 3, 5, 4}, 6, 0, 7, 0, 0},
-        {"C = 0", {2, 3, 5, 4}, 0, 2, 1, 2, 3},
-        {"C = 0, id 0", {2, 3, 5, 4}, 0, 2, 0, 0, 0},
-        {"length 0", {2, 0, 5, 4}, 6, 2, 7, 0, 0},
-        {"length 0 at the text's end", {10, 0}, 6, 1, 7, 0, 0},
+        {"first", {7, 2, 3, 8, 5, 4}, 6, 2, 7, 2, 3},
+        {"second", {7, 2, 3, 8, 5, 4}, 6, 2, 8, 5, 4},
+        {"whole text", {7, 0, 10}, 6, 1, 7, 0, 10},
+        {"last byte", {7, 9, 1}, 6, 1, 7, 9, 1},
+        {"id C", {7, 2, 3, 8, 5, 4}, 6, 2, 6, 0, 0},
+        {"id 1", {7, 2, 3, 8, 5, 4}, 6, 2, 1, 0, 0},
+        {"id 0", {7, 2, 3, 8, 5, 4}, 6, 2, 0, 0, 0},
+        {"record behind the first a", {7, 2, 3, 8, 5, 4}, 6, 1, 8, 0, 0},
+        {"id above all", {7, 2, 3, 8, 5, 4}, 6, 2, 9, 0, 0},
+        {"a = 0", {7, 2, 3, 8, 5, 4}, 6, 0, 7, 0, 0},
+        {"C = 0", {1, 2, 3, 2, 5, 4}, 0, 2, 1, 2, 3},
+        {"C = 0, id 0", {1, 2, 3, 2, 5, 4}, 0, 2, 0, 0, 0},
+        {"C = 0, id 0 that a record has", {0, 2, 3, 2, 5, 4}, 0, 2, 0, 0, 0},
+        {"gap in front", {20, 2, 3, 30, 5, 4}, 6, 2, 20, 2, 3},
+        {"gap between", {20, 2, 3, 30, 5, 4}, 6, 2, 30, 5, 4},
+        {"a number in the gap in front", {20, 2, 3, 30, 5, 4}, 6, 2, 7, 0, 0},
+        {"a number in the gap between", {20, 2, 3, 30, 5, 4}, 6, 2, 25, 0, 0},
+        {"just below", {20, 2, 3, 30, 5, 4}, 6, 2, 29, 0, 0},
+        {"just above", {20, 2, 3, 30, 5, 4}, 6, 2, 31, 0, 0},
+        {"place in a dense count", {20, 2, 3, 30, 5, 4}, 6, 2, 8, 0, 0},
+        {"largest id", {high, 2, 3}, 6, 1, high, 2, 3},
+        {"ids that fall", {30, 2, 3, 20, 5, 4}, 6, 2, 20, 5, 4},
+        {"ids that fall, the larger", {30, 2, 3, 20, 5, 4}, 6, 2, 30, 2, 3},
+        {"ids in no order, the first", {30, 1, 1, 10, 2, 1, 40, 3, 1, 20, 4, 1}, 6, 4, 30, 1, 1},
+        {"ids in no order, the second", {30, 1, 1, 10, 2, 1, 40, 3, 1, 20, 4, 1}, 6, 4, 10, 2, 1},
+        {"ids in no order, the third", {30, 1, 1, 10, 2, 1, 40, 3, 1, 20, 4, 1}, 6, 4, 40, 3, 1},
+        {"ids in no order, the fourth", {30, 1, 1, 10, 2, 1, 40, 3, 1, 20, 4, 1}, 6, 4, 20, 4, 1},
+        {"two records with the id", {9, 2, 3, 9, 5, 4}, 6, 2, 9, 2, 3},
+        {"two records with the id, another before", {8, 1, 1, 9, 2, 3, 9, 5, 4}, 6, 3, 9, 2, 3},
+        {"three records with the id", {9, 4, 1, 9, 2, 1, 9, 3, 1}, 6, 3, 9, 4, 1},
+        {"the first of two is empty", {9, 1, 0, 9, 3, 1}, 6, 2, 9, 0, 0},
+        {"the first of two leaves the text", {9, 9, 2, 9, 3, 1}, 6, 2, 9, 0, 0},
+        {"the first of two wraps", {9, high, 2, 9, 3, 1}, 6, 2, 9, 0, 0},
+        {"the second of two is empty", {9, 3, 1, 9, 1, 0}, 6, 2, 9, 3, 1},
+        {"the first of two behind the first a", {8, 1, 1, 9, 3, 1, 9, 4, 1}, 6, 1, 9, 0, 0},
+        {"the second of two behind the first a", {9, 3, 1, 9, 4, 1}, 6, 1, 9, 3, 1},
+        {"id C that a record has", {6, 0, 1}, 6, 1, 6, 0, 0},
+        {"id 1 that a record has", {1, 0, 1}, 6, 1, 1, 0, 0},
+        {"id 0 that a record has", {0, 0, 1}, 6, 1, 0, 0, 0},
+        {"records below C before", {3, 0, 1, 6, 1, 1, 7, 2, 3}, 6, 3, 7, 2, 3},
+        {"all ids the largest", {high, 2, 3, high, 5, 4}, 6, 2, high, 2, 3},
+        {"all ids the largest, another sought", {high, 2, 3, high, 5, 4}, 6, 2, high - 1, 0, 0},
+        {"all entries the largest", {high, high, high}, 6, 1, high, 0, 0},
+        {"all entries 0", {0, 0, 0, 0, 0, 0}, 6, 2, 7, 0, 0},
+        {"the id as an offset", {8, 7, 1, 8, 7, 1}, 6, 2, 7, 0, 0},
+        {"the id as a length", {8, 1, 7, 8, 1, 7}, 6, 2, 7, 0, 0},
+        {"length 0", {7, 2, 0, 8, 5, 4}, 6, 2, 7, 0, 0},
+        {"length 0 at the text's end", {7, 10, 0}, 6, 1, 7, 0, 0},
         {"no slice", {}, 6, 1, 7, 0, 0},
-        {"pair half inside", {2, 3, 5}, 6, 2, 8, 0, 0},
-        {"pair before the odd entry", {2, 3, 5}, 6, 2, 7, 2, 3},
-        {"pair outside, a larger than the slice", {2, 3}, 6, 9, 8, 0, 0},
-        {"pair inside, a larger than the slice", {2, 3}, 6, 9, 7, 2, 3},
-        {"one byte past the text", {8, 3}, 6, 1, 7, 0, 0},
-        {"longer than the text", {0, 11}, 6, 1, 7, 0, 0},
-        {"offset at the text's end", {10, 1}, 6, 1, 7, 0, 0},
-        {"offset past the text", {11, 1}, 6, 1, 7, 0, 0},
-        {"offset and length pass 32 bits", {high, 3}, 6, 1, 7, 0, 0},
-        {"offset and length wrap to 2", {high - 1, 4}, 6, 1, 7, 0, 0},
-        {"length of 32 bits", {2, high}, 6, 1, 7, 0, 0},
-        {"C and a pass 32 bits", {2, 3, 5, 4}, 6, high, 8, 5, 4},
-        {"C and a pass 32 bits, id far", {2, 3, 5, 4}, 6, high, high, 0, 0},
-        {"C near 2^32", {2, 3, 5, 4}, high - 1, high, high, 2, 3},
-        {"C = 2^32-1", {2, 3, 5, 4}, high, high, high, 0, 0},
-        {"C = 2^32-1, id wrapped", {2, 3, 5, 4}, high, high, 0, 0, 0},
+        {"no slice, a = 0", {}, 6, 0, 7, 0, 0},
+        {"no slice, a large", {}, 6, high, 7, 0, 0},
+        {"one entry", {7}, 6, 1, 7, 0, 0},
+        {"two entries", {7, 2}, 6, 1, 7, 0, 0},
+        {"record without its length", {7, 2, 3, 8, 5}, 6, 2, 8, 0, 0},
+        {"record without offset and length", {7, 2, 3, 8}, 6, 2, 8, 0, 0},
+        {"record before one spare entry", {7, 2, 3, 8}, 6, 2, 7, 2, 3},
+        {"record before two spare entries", {7, 2, 3, 8, 5}, 6, 2, 7, 2, 3},
+        {"two records and two spare entries", {7, 2, 3, 8, 5, 4, 9, 1}, 6, 3, 8, 5, 4},
+        {"the third of two and two spare entries", {7, 2, 3, 8, 5, 4, 9, 1}, 6, 3, 9, 0, 0},
+        {"record outside, a larger than the slice", {7, 2, 3}, 6, 9, 8, 0, 0},
+        {"record inside, a larger than the slice", {7, 2, 3}, 6, 9, 7, 2, 3},
+        {"record inside, a the largest", {7, 2, 3, 8, 5, 4}, 6, high, 8, 5, 4},
+        {"record outside, a the largest", {7, 2, 3, 8, 5, 4}, 6, high, high, 0, 0},
+        {"one byte past the text", {7, 8, 3}, 6, 1, 7, 0, 0},
+        {"longer than the text", {7, 0, 11}, 6, 1, 7, 0, 0},
+        {"offset at the text's end", {7, 10, 1}, 6, 1, 7, 0, 0},
+        {"offset past the text", {7, 11, 1}, 6, 1, 7, 0, 0},
+        {"offset and length pass 32 bits", {7, high, 3}, 6, 1, 7, 0, 0},
+        {"offset and length wrap to 2", {7, high - 1, 4}, 6, 1, 7, 0, 0},
+        {"length of 32 bits", {7, 2, high}, 6, 1, 7, 0, 0},
+        {"C near 2^32", {high, 2, 3, 8, 5, 4}, high - 1, high, high, 2, 3},
+        {"C near 2^32, id C", {high - 1, 2, 3}, high - 1, 1, high - 1, 0, 0},
+        {"C = 2^32-1", {high, 2, 3, 8, 5, 4}, high, high, high, 0, 0},
+        {"C = 2^32-1, id wrapped", {0, 2, 3, 8, 5, 4}, high, high, 0, 0, 0},
     };
     Group group("second: part of an added clause");
     for (const PartRow& row : rows) {
@@ -871,26 +1124,33 @@ void group_parts_by_hand() {
 }
 
 // The parts that a check leaves are the literals of the lines, in the text's
-// words; deleted clauses have none.
+// words; deleted clauses have none, and neither have the numbers beside the ids.
 void check_parts(Group& group, const Request& q, const MadeLines& lines, const std::string& text,
                  const Outcome& outcome) {
     unsigned V = 0, C = 0, T = 0;
     second::counts(q, V, C, T);
-    std::vector<std::string> want;
+    std::map<std::uint32_t, std::string> want;
+    std::size_t additions = 0;
     for (const MadeLine& line : lines) {
         std::string words;
         for (std::int64_t literal : line.literals) words += " " + std::to_string(literal);
-        if (!words.empty()) want.push_back(words.substr(1));
+        if (!words.empty()) {
+            additions++;
+            for (std::int64_t id : {line.id - 1, line.id, line.id + 1}) {
+                want.emplace(std::uint32_t(id), "");
+            }
+            want[std::uint32_t(line.id)] = words.substr(1);
+        }
         for (std::int64_t id : line.ids) {
-            if (line.deletes && id > std::int64_t(C)) want[std::size_t(id) - C - 1] = "";
+            if (line.deletes && id > std::int64_t(C)) want[std::uint32_t(id)] = "";
         }
     }
-    bool same = want.size() == outcome.count;
-    for (std::uint32_t id = 0; id <= C + want.size() + 2; id++) {
+    for (std::uint32_t id = 0; id <= C + additions + 2; id++) want.emplace(id, "");
+    bool same = additions == outcome.count;
+    for (const auto& [id, words] : want) {
         const second::Part part =
             second::added_part(text, outcome.slices.added, C, outcome.count, id);
-        const bool inside = id > C && id - C - 1 < want.size();
-        same = same && text.substr(part.offset, part.length) == (inside ? want[id - C - 1] : "");
+        same = same && text.substr(part.offset, part.length) == words;
     }
     group.check(same, same ? "" : numbers_of(q) + " " + shown(text), "second: parts");
 }
@@ -906,7 +1166,8 @@ struct Source {
     bool ended;
 };
 
-// Refutations by solvers, as they stand in real cells.
+// Refutations by solvers, as they stand in real cells; their ids follow one
+// another.
 std::vector<Source> real_sources() {
     struct Real {
         Request q;
@@ -968,6 +1229,22 @@ std::vector<Request> small_requests() {
     return all;
 }
 
+// The source with gaps between its ids.
+Source with_gaps(const Source& source, Gaps gaps) {
+    unsigned V = 0, C = 0, T = 0;
+    second::counts(source.q, V, C, T);
+    return {source.q, with_gaps(source.lines, C, gaps, random_numbers.next()), source.ended};
+}
+
+// Each source with gaps of every kind.
+std::vector<Source> with_all_gaps(const std::vector<Source>& sources) {
+    std::vector<Source> all;
+    for (const Source& source : sources) {
+        for (const Gaps gaps : all_gaps) all.push_back(with_gaps(source, gaps));
+    }
+    return all;
+}
+
 std::vector<Source> made_sources() {
     std::vector<Source> sources;
     for (const Request& q : small_requests()) {
@@ -1023,7 +1300,7 @@ std::string damaged(const Source& source) {
 }
 
 // Damaged copies, with slices of all lengths. In some the added slice holds
-// the pairs of the source before the check. In a few the request is another.
+// the records of the source before the check. In a few the request is another.
 void check_damaged(Group& group, const Source& source, unsigned long copies) {
     const Lengths exact = exact_lengths(source.q, additions_in(source.lines));
     const std::string whole = text_of(source.lines);
@@ -1034,40 +1311,56 @@ void check_damaged(Group& group, const Source& source, unsigned long copies) {
         Request q = source.q;
         if (random_numbers.below(50) == 0) q.table ^= 1u << random_numbers.below(1u << q.n);
         if (random_numbers.below(50) == 0) q.free ^= 1u << random_numbers.below(1u << q.n);
-        const Lengths lengths = any_lengths(exact_lengths(q, exact.added / 2));
+        const Lengths lengths = any_lengths(exact_lengths(q, exact.added / 3));
         Slices slices = any_slices(lengths, text.size());
         if (random_numbers.below(4) == 0) {
-            const std::vector<std::uint32_t>& pairs = undamaged.slices.added;
-            std::copy(pairs.begin(),
-                      pairs.begin() + std::ptrdiff_t(std::min(pairs.size(), slices.added.size())),
+            const std::vector<std::uint32_t>& records = undamaged.slices.added;
+            const std::size_t length = std::min(records.size(), slices.added.size());
+            std::copy(records.begin(), records.begin() + std::ptrdiff_t(length),
                       slices.added.begin());
         }
         check_same(group, q, text, slices);
     }
 }
 
+// The sources of requests with r switches that have a line.
+std::vector<Source> of_switches(const std::vector<Source>& sources, unsigned r) {
+    std::vector<Source> all;
+    for (const Source& source : sources) {
+        if (source.q.r == r && !source.lines.empty()) all.push_back(source);
+    }
+    return all;
+}
+
+// A group of so many damaged copies of each source. The answer is their number.
+unsigned long group_of_damaged(const std::string& name, const std::vector<Source>& sources,
+                               unsigned long copies) {
+    Group group(name);
+    for (const Source& source : sources) check_damaged(group, source, copies);
+    group.finish();
+    return copies * sources.size();
+}
+
 void groups_of_damaged() {
-    unsigned long damaged_in_all = 0;
     const std::vector<Source> real = real_sources(), made = made_sources();
+    const std::vector<Source> real_gaps = with_all_gaps(real), made_gaps = with_all_gaps(made);
     group_undamaged("refutations by solvers", real, real.size());
+    group_undamaged("the same with gaps", real_gaps, real_gaps.size());
     group_undamaged("made refutations", made, 60);
-    Group real_group("damaged refutations by solvers");
-    for (const Source& source : real) check_damaged(real_group, source, 5000);
-    damaged_in_all += 5000 * real.size();
-    real_group.finish();
+    group_undamaged("the made ones with gaps", made_gaps, 180);
+    unsigned long damaged_in_all = group_of_damaged("damaged refutations by solvers", real, 5000);
+    unsigned long with_gaps = group_of_damaged("the same with gaps, damaged", real_gaps, 2000);
     for (unsigned r = 0; r <= 2; r++) {
-        Group group("damaged refutations, r=" + std::to_string(r));
-        for (const Source& source : made) {
-            if (source.q.r != r || source.lines.empty()) continue;
-            check_damaged(group, source, 800);
-            damaged_in_all += 800;
-        }
-        group.finish();
+        const std::string name = "damaged refutations, r=" + std::to_string(r);
+        damaged_in_all += group_of_damaged(name, of_switches(made, r), 800);
+        with_gaps += group_of_damaged(name + ", with gaps", of_switches(made_gaps, r), 300);
     }
     Group group("number of damaged refutations");
     group.check(damaged_in_all >= 120000, "damaged refutations", "fewer than 120000");
+    group.check(with_gaps >= 120000, "damaged refutations with gaps", "fewer than 120000");
     group.finish();
-    std::printf("%lu damaged refutations\n", damaged_in_all);
+    std::printf("%lu damaged refutations, and %lu with gaps between their ids\n", damaged_in_all,
+                with_gaps);
 }
 
 // Each number must come up often enough; 2 to 5 and 24 come by the thousand in
@@ -1115,10 +1408,18 @@ int check_file(char** words) {
     return 1;
 }
 
+// How many numbers are left out between C and the last id of an outcome.
+std::uint32_t left_out(std::uint32_t C, const Outcome& outcome) {
+    if (outcome.count == 0) return 0;
+    return outcome.slices.added[3 * std::size_t(outcome.count) - 3] - C - outcome.count;
+}
+
 // A group for each file: it is a refutation, and damaged copies of it. The
-// copies of a file have about 20,000,000 bytes together.
+// copies of a file have about 20,000,000 bytes together. Then a group with gaps of
+// each kind between its ids: it ends as before, with as many records, and its parts
+// are those of its lines; and damaged copies, half as many.
 int compare_files(int count, char** words) {
-    unsigned long damaged_in_all = 0;
+    unsigned long damaged_in_all = 0, numbers_left_out = 0;
     for (int k = 2; k + 5 <= count; k += 5) {
         Group group(words[k]);
         std::string text;
@@ -1126,17 +1427,37 @@ int compare_files(int count, char** words) {
         const Request q = request_of(words + k + 1);
         group.check(read, words[k], "cannot be read");
         if (read) {
+            unsigned V = 0, C = 0, T = 0;
+            second::counts(q, V, C, T);
             const Outcome outcome = check_same(group, q, text, just_enough(q, text));
             group.check(outcome.number == 0, words[k],
                         "second: refused " + std::to_string(outcome.number));
-            const unsigned long copies = std::clamp(20000000ul / (text.size() + 1), 3ul, 3000ul);
+            group.check(left_out(C, outcome) == 0, words[k], "its ids have gaps");
+            check_parts(group, q, made_lines_of(text), text, outcome);
+            const unsigned long copies = std::clamp(20000000ul / (text.size() + 1), 6ul, 3000ul);
             check_damaged(group, {q, made_lines_of(text), true}, copies);
             damaged_in_all += copies;
+            for (const Gaps gaps : all_gaps) {
+                const std::string name = words[k] + std::string(" with gaps, ") + gaps_name(gaps);
+                Group gaps_group(name);
+                const std::string other = gapped(text, C, gaps);
+                const Outcome again = check_same(gaps_group, q, other, just_enough(q, other));
+                gaps_group.check(again.number == outcome.number && again.count == outcome.count,
+                                 name, "second: another number or count");
+                const bool has_gaps = gaps == Gaps::rare ? again.count > 0 : again.count > 1000;
+                gaps_group.check(!has_gaps || left_out(C, again) > 0, name, "no number left out");
+                check_parts(gaps_group, q, made_lines_of(other), other, again);
+                check_damaged(gaps_group, {q, made_lines_of(other), true}, copies / 6);
+                numbers_left_out += left_out(C, again);
+                damaged_in_all += copies / 6;
+                gaps_group.finish();
+            }
         }
         group.finish();
     }
-    std::printf("%d stored refutations, %lu damaged copies of them\n", (count - 2) / 5,
-                damaged_in_all);
+    std::printf("%d stored refutations, each also with gaps of three kinds, which leave out %lu "
+                "numbers; %lu damaged copies of them\n",
+                (count - 2) / 5, numbers_left_out, damaged_in_all);
     return counts();
 }
 
@@ -1147,18 +1468,21 @@ int compare_long(char** words) {
     struct LongRow {
         std::size_t bytes;
         LongRefutation::Hints hints;
+        Gaps gaps;
         unsigned damaged;
     };
-    const LongRow rows[] = {{1500000, LongRefutation::Hints::near, 14},
-                            {3000000, LongRefutation::Hints::far, 10},
-                            {6000000, LongRefutation::Hints::near, 3},
-                            {16777215, LongRefutation::Hints::far, 1}};
+    using Hints = LongRefutation::Hints;
+    const LongRow rows[] = {
+        {1500000, Hints::near, Gaps::none, 14},    {3000000, Hints::far, Gaps::none, 10},
+        {6000000, Hints::near, Gaps::none, 3},     {16777215, Hints::far, Gaps::none, 1},
+        {1500000, Hints::far, Gaps::rare, 8},      {3000000, Hints::near, Gaps::third, 4},
+        {6000000, Hints::far, Gaps::hundredth, 2}, {16777215, Hints::near, Gaps::third, 1}};
     const Request q = request_of(words + 3);
     const LongRefutation source(q, text_of_file(words[2]));
     Group group("long refutations");
     std::size_t texts = 0, bytes = 0;
     for (const LongRow& row : rows) {
-        const std::string text = source.text(row.bytes, row.hints);
+        const std::string text = source.text(row.bytes, row.hints, row.gaps);
         const Lengths exact = exact_lengths(q, lines_in(text));
         const Outcome outcome = check_same(group, q, text, enough(exact));
         group.check(outcome.number == 0 && text.size() + 2000 > row.bytes, words[2],
@@ -1186,13 +1510,16 @@ void run_all() {
     group_forms();
     group_numbers();
     group_ids();
+    group_gaps();
+    group_hints_with_gaps();
+    group_deletions_with_gaps();
     group_literals();
     group_hints();
     group_deletions();
     group_places();
     group_slices_at_exit();
     group_free_rows();
-    group_prior_pairs();
+    group_prior_records();
     group_prior_values();
     group_short_slices();
     group_long_texts();

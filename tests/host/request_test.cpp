@@ -28,6 +28,7 @@
 #include "checks.hpp"
 #include "entries.hpp"
 #include "files.hpp"
+#include "gapped.hpp"
 #include "guarded.hpp"
 #include "lent.hpp"
 #include "nordkelch.h"
@@ -670,6 +671,16 @@ void group_file(const std::string& program, const std::string& folder) {
     group.finish();
 }
 
+// The refutation of a cell, for k - 1, with gaps between its ids in half of the
+// cases.
+std::string any_gaps(const std::string& refutation, Request q) {
+    if (q.r == 0 || random_numbers.below(2) == 0) return refutation;
+    unsigned V = 0, C = 0, T = 0;
+    q.r--;
+    second::counts(q, V, C, T);
+    return gapped(refutation, C, all_gaps[random_numbers.below(3)], random_numbers.next());
+}
+
 // The program `report` on cells that are given as words, and on damaged copies
 // of their files.
 void group_report(const std::string& program, const std::string& folder, int count, char** words) {
@@ -679,7 +690,8 @@ void group_report(const std::string& program, const std::string& folder, int cou
     for (int round = 0; round < rounds; round++) {
         char** const cell = words + 6 * (round % (count / 6));
         const std::string line = std::string(cell[2]) + " " + cell[3] + " " + cell[4] + " " + cell[5];
-        std::string files[] = {line + "\n", text_of_file(cell[0]), text_of_file(cell[1])};
+        std::string files[] = {line + "\n", text_of_file(cell[0]),
+                               any_gaps(text_of_file(cell[1]), request_of(cell + 2))};
         std::string& file = files[random_numbers.below(3)];
         if (round % 4 > 0) file = damaged(file);
         const char* const names[] = {"/request.txt", "/answer.txt", "/refutation.txt"};

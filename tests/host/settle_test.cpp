@@ -14,6 +14,7 @@
 
 #include "../second/settling.hpp"
 #include "files.hpp"
+#include "gapped.hpp"
 #include "guarded.hpp"
 #include "lent.hpp"
 #include "long_refutation.hpp"
@@ -165,8 +166,8 @@ void group_damaged(const Cell& cell) {
     group.finish();
 }
 
-// Refutations of megabytes made from the cell's, up to the longest that is read: "least"; "works" with 16 where a byte near the end
-// is damaged; and "works" with 15 one byte past the limit, though that byte would be unread.
+// Refutations of megabytes made from the cell's, up to the longest that is read, the longest with gaps between its ids: "least";
+// "works" with 16 where a byte near the end is damaged; and "works" with 15 one byte past the limit, though that byte would be unread.
 void group_long(const Cell& cell) {
     Group group("long refutations");
     const std::size_t most = 16777215;
@@ -175,7 +176,7 @@ void group_long(const Cell& cell) {
     const LongRefutation source(smaller, cell.refutation);
     Cell longer = cell;
     for (const std::size_t bytes : {std::size_t(4000000), most}) {
-        longer.refutation = source.text(bytes, LongRefutation::Hints::near);
+        longer.refutation = source.text(bytes, LongRefutation::Hints::near, bytes < most ? Gaps::none : Gaps::third);
         group.check(compare(group, longer, needed(longer)).verdict == 0, numbers_of(cell.q), "second: not least");
         longer.refutation[longer.refutation.size() - 1 - random_numbers.below(bytes / 20)] = 'x';
         group.check(compare(group, longer, needed(longer)).number == 16, numbers_of(cell.q), "second: not 16");
@@ -193,6 +194,18 @@ void group_least(const Cell& cell) {
     const Lengths exact = needed(cell);
     for (const Lengths& lengths : {exact, Lengths{exact.literals + 7, exact.pairs + 7, exact.added + 7, exact.values + 7}}) {
         group.check(compare(group, cell, lengths).verdict == 0, numbers_of(cell.q), "second: not least");
+    }
+    // the same with gaps between its ids
+    unsigned V = 0, C = 0, T = 0;
+    Cell other = cell;
+    if (cell.q.r > 0) {
+        Request smaller = cell.q;
+        smaller.r--;
+        second::counts(smaller, V, C, T);
+    }
+    for (const Gaps gaps : all_gaps) {
+        other.refutation = gapped(cell.refutation, C, gaps);
+        group.check(compare(group, other, exact).verdict == 0, numbers_of(cell.q), "second: not least with gaps");
     }
     group.finish();
 }

@@ -1,5 +1,5 @@
 // A second implementation of what the programs `file` and `report` print,
-// written from document 01 alone.
+// written from documents 01 and 02 alone.
 #pragma once
 
 #include <cstddef>
@@ -38,8 +38,9 @@ inline std::string network_lines(const std::vector<std::uint8_t>& network) {
 
 // "the first longer one, in that order, ends it with "too long" and its name".
 // "It lends 16,384 entries each for literals, pairs and added pairs, and 8,192
-// bytes of values". "It prints "least k", "works k number", "fails k row" or
-// "refused number"".
+// bytes of values": those for added pairs have room for 5,461 records of three
+// entries. "It prints "least k", "works k number", "fails k row" or "refused
+// number"".
 inline std::string report_output(const std::string& request, const std::string& answer,
                                  const std::string& refutation) {
     if (request.size() > program_bytes) return "too long request.txt\n";

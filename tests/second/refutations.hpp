@@ -1,15 +1,17 @@
 // A second implementation of checking a refutation, for tests only.
 //
-// It was written from document 01 alone, without a look at the proved code: a
-// line is first taken apart into numbers, and the rules are then applied to
-// these, one after another. Each part names, in quotes, the sentence of
-// document 01 that it follows. Where the document can be read in two ways,
-// docs/DECISIONS.md has the reading that is followed.
+// It was written from documents 01 and 02 alone, without a look at the proved
+// code: a line is first taken apart into numbers, and the rules are then applied
+// to these, one after another. Each part names, in quotes, the sentence of
+// document 01 that it follows, or of document 02, of its change U4. Where a
+// document can be read in two ways, docs/DECISIONS.md has the reading that is
+// followed.
 #pragma once
 
 #include <cstddef>
 #include <cstdint>
 #include <string>
+#include <unordered_map>
 #include <vector>
 
 #include "answers.hpp"
@@ -18,8 +20,10 @@
 namespace second {
 
 // The slices that a check works in. "The clause store is two slices: 32-bit
-// signed literals, and pairs of offset and length in entries". "Added clauses
-// have pairs in a slice of their own". The last is "the byte slice of values".
+// signed literals, and pairs of offset and length in entries". Added clauses
+// have "a slice of their own"; of it document 02: "Each added clause's record
+// becomes id, offset, length, three entries." The last is "the byte slice of
+// values".
 struct Slices {
     std::vector<std::int32_t> literals;
     std::vector<std::uint32_t> pairs;
@@ -27,8 +31,8 @@ struct Slices {
     std::vector<std::uint8_t> values;
 };
 
-// What a check gives: the refusal's number, 0 for "none"; "the number a of
-// added pairs too"; and what it leaves in the slices.
+// What a check gives: the refusal's number, 0 for "none"; the number a of
+// records; and what it leaves in the slices.
 struct Outcome {
     int number;
     std::uint32_t count;
@@ -100,25 +104,37 @@ inline bool refutation_line_of(const Line& text, RefutationLine& line) {
 // The state between lines
 // ---------------------------------------------------------------------------
 
+// A clause that was added. Its record is the one of the same number, from 0.
+struct Addition {
+    int id;
+    Clause clause;
+    bool deleted;
+};
+
 struct RefutationState {
     unsigned V = 0;
     unsigned C = 0;
     std::vector<Clause> originals;  // the clause of id k+1 is originals[k]
-    std::vector<Clause> additions;  // the clause of id C+k+1 is additions[k]
+    std::vector<Addition> additions;
+    std::unordered_map<int, std::size_t> addition_of;  // an id's place in additions
     Slices slices;
 };
 
+// Whether this is the id of one of the clauses 1 to C.
+inline bool is_original(const RefutationState& state, int id) {
+    return id >= 1 && unsigned(id) <= state.C;
+}
+
 // The literals of the clause with this id, or nothing "if its clause doesn't
-// stand". "original clauses stay standing"; of an added clause that is
-// deleted, "its pair's length becomes 0".
+// stand". "original clauses stay standing"; an added clause stands from its own
+// line to its deletion. No clause has a number that was left out between two
+// ids.
 inline const Clause* standing_clause(const RefutationState& state, int id) {
-    if (id <= 0) return nullptr;
-    std::size_t k = std::size_t(id) - 1;
-    if (k < state.originals.size()) return &state.originals[k];
-    k = k - state.originals.size();
-    if (k >= state.additions.size()) return nullptr;
-    if (state.slices.added[2 * k + 1] == 0) return nullptr;
-    return &state.additions[k];
+    if (is_original(state, id)) return &state.originals[std::size_t(id) - 1];
+    const auto found = state.addition_of.find(id);
+    if (found == state.addition_of.end()) return nullptr;
+    const Addition& addition = state.additions[found->second];
+    return addition.deleted ? nullptr : &addition.clause;
 }
 
 // ---------------------------------------------------------------------------
@@ -173,25 +189,36 @@ inline int follow_hints(const RefutationState& state, const std::vector<int>& hi
     return 21;
 }
 
+// "An added id need only be above C and every earlier one." The last of these,
+// deleted or not, is the largest, since it was above those before it. The ids of
+// d lines are free, and are none of these.
+inline bool id_is_good(const RefutationState& state, int id) {
+    if (unsigned(id) <= state.C) return false;
+    return state.additions.empty() || id > state.additions.back().id;
+}
+
 // One addition, whose line starts at byte `start` of the text. The answer is
-// 17 to 22, or 0 when it is accepted. The empty clause gets no pair.
+// 17 to 22, or 0 when it is accepted. The empty clause gets no record.
 inline int add_clause(RefutationState& state, const RefutationLine& line, std::size_t start) {
-    // "17 id not the next (first C+1)"
-    const std::size_t a = state.additions.size();
-    if (std::size_t(line.id) != state.C + a + 1) return 17;
+    // "17 is now for an id not above C and the last"
+    if (!id_is_good(state, line.id)) return 17;
     if (!literals_are_good(line.literals, state.V)) return 18;
-    // "22 no place for the pair of a non-empty clause; then hints"
-    if (!line.literals.empty() && state.slices.added.size() < 2 * a + 2) return 22;
+    // "22 no place for the pair of a non-empty clause; then hints". In place of
+    // the pair there is a record of "three entries".
+    const std::size_t a = state.additions.size();
+    if (!line.literals.empty() && state.slices.added.size() < 3 * a + 3) return 22;
     // "The line's literals are set false."
     Values values(std::size_t(state.V) + 1, 0);
     for (int literal : line.literals) make_true(values, -literal);
     const int number = follow_hints(state, line.ids, values);
     if (number != 0 || line.literals.empty()) return number;
-    // "counted in bytes of the refutation's text from the first literal's
-    // first byte to the last literal's last"
-    state.slices.added[2 * a] = std::uint32_t(start + line.first);
-    state.slices.added[2 * a + 1] = std::uint32_t(line.end - line.first);
-    state.additions.push_back(line.literals);
+    // "id, offset, length", "counted in bytes of the refutation's text from the
+    // first literal's first byte to the last literal's last"
+    state.slices.added[3 * a] = std::uint32_t(line.id);
+    state.slices.added[3 * a + 1] = std::uint32_t(start + line.first);
+    state.slices.added[3 * a + 2] = std::uint32_t(line.end - line.first);
+    state.additions.push_back({line.id, line.literals, false});
+    state.addition_of[line.id] = a;
     return 0;
 }
 
@@ -200,13 +227,15 @@ inline int add_clause(RefutationState& state, const RefutationLine& line, std::s
 // ---------------------------------------------------------------------------
 
 // "Deletion, left to right: 19 if an id doesn't stand; original clauses stay
-// standing. Its pair's length becomes 0 and its place isn't used again."
+// standing. Its pair's length becomes 0 and its place isn't used again." That is
+// now the length of its record; the record's id and offset stay.
 inline int delete_clauses(RefutationState& state, const std::vector<int>& ids) {
     for (int id : ids) {
         if (standing_clause(state, id) == nullptr) return 19;
-        if (unsigned(id) <= state.C) continue;
-        const std::size_t k = std::size_t(id) - state.C - 1;
-        state.slices.added[2 * k + 1] = 0;
+        if (is_original(state, id)) continue;
+        const std::size_t k = state.addition_of[id];
+        state.additions[k].deleted = true;
+        state.slices.added[3 * k + 2] = 0;
     }
     return 0;
 }
@@ -285,20 +314,23 @@ struct Part {
     std::uint64_t length;
 };
 
-// "An added clause's literals are handed back as the part of the refutation's
-// text that its pair names, in bytes, given the text, the added pairs, C, a
-// and an id; for an id outside C+1 to C+a, a length of 0, or a pair outside its
-// slice or the text, as the empty part." The sums are of 64 bits and don't wrap.
+// "The part handed back is that of the first of the a records, wholly inside the
+// slice, with this id; an id at or below C or without a record gives the empty
+// part." It is "the part of the refutation's text that its pair names, in bytes",
+// by the record's offset and length; "for [...] a length of 0, or a pair outside
+// [...] the text", it is the empty part, whatever records come after. The sums are
+// of 64 bits and don't wrap.
 inline Part added_part(const std::string& text, const std::vector<std::uint32_t>& added,
                        std::uint32_t C, std::uint32_t a, std::uint32_t id) {
     const Part empty = {0, 0};
-    if (id <= C || std::uint64_t(id) > std::uint64_t(C) + a) return empty;
-    const std::uint64_t k = std::uint64_t(id) - C - 1;
-    if (2 * k + 2 > added.size()) return empty;
-    const Part part = {added[2 * k], added[2 * k + 1]};
-    if (part.length == 0) return empty;
-    if (part.offset + part.length > text.size()) return empty;
-    return part;
+    if (id <= C) return empty;
+    for (std::uint64_t k = 0; k < a && 3 * k + 3 <= added.size(); k++) {
+        if (added[3 * k] != id) continue;
+        const Part part = {added[3 * k + 1], added[3 * k + 2]};
+        if (part.length == 0 || part.offset + part.length > text.size()) return empty;
+        return part;
+    }
+    return empty;
 }
 
 }  // namespace second

@@ -1,27 +1,40 @@
-// The literals of a clause that a refutation adds (document 01, "Checking a refutation"): the caller's own bytes, by the pair that the
-// check left.
+// The records of the clauses that a refutation adds, and a clause's literals by its record (documents 01, "Checking a refutation", and 02,
+// U4): the caller's own bytes, by what the check left.
 #![tactic(auto)]
 
-ghost use Rattle.std.specs.Prelude.{◌≡◌, [], MatchOption};
-ghost use Rattle.added.specs.Part.{pair_part, part_of};
+ghost use Rattle.std.specs.Prelude.{◌≡◌, ◌+◌, ◌*◌, ◌≤◌, length, IfSome};
+ghost use Rattle.added.specs.Record.{entries, first_with};
+ghost use Rattle.added.specs.Part.{part_of};
 
-// The part of the text that pair k names, where there is such a pair and the text has such a part.
-fn pair_part<'a>(text: &'a [u8], added: &[u32], k: u32) -> Option<&'a [u8]>
-    ensures { MatchOption result ([] ≡ pair_part text.now added.now k) (λ part. part.now ≡ pair_part text.now added.now k) }
+// The entries of a record: the clause's id, and the offset and the length of its literals in the text.
+pub const ENTRIES: usize = 3;
+
+// The first of the first a records, as far as the slice has them whole, that has this id.
+fn first(added: &[u32], a: u32, id: u32) -> Option<usize>
+    ensures first { result ≡ first_with a added.now id }
+    ensures inside { IfSome result (λ k. entries * k + entries ≤ length added.now) }
 {
-    let k = k as usize;
-    let at = *added.get(2 * k)? as usize;
-    let n = *added.get(2 * k + 1)? as usize;
-    text.get(at..at + n)
+    let whole = added.len() / ENTRIES;
+    for k in 0..whole.min(a as usize) {
+        if added[ENTRIES * k] == id {
+            return Some(k);
+        }
+    }
+    None
 }
 
-// The literals of an added clause, by its id: the part of the text that its pair names, of c original clauses and a added ones; the
-// empty part where there is no such pair.
+// The literals of an added clause, by its id: the part of the text that the first of its records names, of c original clauses and a
+// added ones; the empty part where there is no such record, or no such part.
 pub fn part<'a>(text: &'a [u8], added: &[u32], c: u32, a: u32, id: u32) -> &'a [u8]
     ensures { result.now ≡ part_of text.now added.now c a id }
 {
-    if id <= c || a <= id - c - 1 {
+    if id <= c {
         return &[];
     }
-    pair_part(text, added, id - c - 1).unwrap_or(&[])
+    let Some(k) = first(added, a, id) else {
+        return &[];
+    };
+    let at = added[ENTRIES * k + 1] as usize;
+    let n = added[ENTRIES * k + 2] as usize;
+    text.get(at..at + n).unwrap_or(&[])
 }

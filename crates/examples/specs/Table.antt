@@ -112,7 +112,7 @@ no_switch = asked 1 2 0 0 1
 slices : Lent
 slices = lent (replicate 20 (Z.pos 0)) (replicate 20 0) (replicate 4 0) (replicate 10 0)
 
--- the number of checking a refutation of it, and the number of added pairs
+-- the number of checking a refutation of it, and the number of added records
 refuted : List ℕ → List ℕ
 refuted t = result_number (check_answer no_switch t slices) ∷ result_values (check_answer no_switch t slices)
 
@@ -158,8 +158,10 @@ rows =
     ∷ record { computed = refuted (55 ∷ 32 ∷ 48 ∷ 32 ∷ 53 ∷ 32 ∷ 54 ∷ 32 ∷ 49 ∷ 32 ∷ 50 ∷ 32 ∷ 48 ∷ 10 ∷ []); stated = 21 ∷ 0 ∷ [] }
     -- P6: hints 5 6 3: 20
     ∷ record { computed = refuted (55 ∷ 32 ∷ 48 ∷ 32 ∷ 53 ∷ 32 ∷ 54 ∷ 32 ∷ 51 ∷ 32 ∷ 48 ∷ 10 ∷ []); stated = 20 ∷ 0 ∷ [] }
-    -- P7: id 8: 17
-    ∷ record { computed = refuted (56 ∷ 32 ∷ 48 ∷ 32 ∷ 53 ∷ 32 ∷ 54 ∷ 32 ∷ 49 ∷ 32 ∷ 50 ∷ 32 ∷ 52 ∷ 32 ∷ 48 ∷ 10 ∷ []); stated = 17 ∷ 0 ∷ [] }
+    -- P7: id 8, which need not be the next: none
+    ∷ record { computed = refuted (56 ∷ 32 ∷ 48 ∷ 32 ∷ 53 ∷ 32 ∷ 54 ∷ 32 ∷ 49 ∷ 32 ∷ 50 ∷ 32 ∷ 52 ∷ 32 ∷ 48 ∷ 10 ∷ []); stated = 0 ∷ 0 ∷ [] }
+    -- "6 0 5 6 1 2 4 0": an id at C is 17
+    ∷ record { computed = refuted (54 ∷ 32 ∷ 48 ∷ 32 ∷ 53 ∷ 32 ∷ 54 ∷ 32 ∷ 49 ∷ 32 ∷ 50 ∷ 32 ∷ 52 ∷ 32 ∷ 48 ∷ 10 ∷ []); stated = 17 ∷ 0 ∷ [] }
     -- P8: labels 0 0 2 2
     ∷ record { computed = answered one_switch one_answer; stated = 0 ∷ 0 ∷ 0 ∷ 2 ∷ 2 ∷ [] }
     -- and, with P4's refutation, the report "least 1", "0 0 0 2", "sink 2"

@@ -30,7 +30,7 @@ verdict_code values = get_or values 0 0
 abbrev pub verdict_detail : ℕ → List ℕ → ℕ
 verdict_detail number values = get_or values 2 number
 
--- what checking a refutation hands a host: the number of the outcome, the number of added pairs, and the slices as they are left
+-- what checking a refutation hands a host: the number of the outcome, the number of added records, and the slices as they are left
 pub record Checks (q : Request) (text : List ℕ) (before : Lent) (answer count : ℕ) (after : Lent) : Type 0 where
   pub answer_is : answer ≡ check_number q text before
   pub count_is : count ∷ [] ≡ check_values q text before

@@ -163,7 +163,7 @@ pub fn nk_test_answer(n: u8, table: u16, free: u16, r: u8, m: u8, text: &[u8]) -
     }
 }
 
-// Checks a refutation of a request's clauses over four lent slices: 0 for "none", else the refusal; the number of added pairs goes
+// Checks a refutation of a request's clauses over four lent slices: 0 for "none", else the refusal; the number of added records goes
 // behind count.
 pub fn nk_check_refutation(
     n: u8,

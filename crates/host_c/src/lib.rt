@@ -115,7 +115,7 @@ pub extern "C" fn nk_test_answer(n: u8, table: u16, free: u16, r: u8, m: u8, tex
     host::nk_test_answer(n, table, free, r, m, text)
 }
 
-// Checks a refutation of a request's clauses over four lent slices: 0 for "none", else the refusal; the number of added pairs goes
+// Checks a refutation of a request's clauses over four lent slices: 0 for "none", else the refusal; the number of added records goes
 // behind count.
 #[unsafe(no_mangle)]
 pub extern "C" fn nk_check_refutation(

@@ -4,8 +4,8 @@ use Rattle.std.proofs.Common.{Option}
 use Rattle.std.proofs.Math.Path.{sym, ap}
 use Rattle.std.proofs.Common.{◌∙◌, subst, inl, inr, ⊎_elim, arith}
 use Rattle.std.proofs.Math.Bool.{false}
-use Prim.Native.Nat.{ℕ, zero, suc, ◌+◌, ◌-◌, ◌*◌, ◌≤◌, ◌<◌}
-use borrow.Author.Tests.{ltb-false, eq-eqb, ne_eqb, lt-ltb, le-ltb}
+use Prim.Native.Nat.{ℕ, zero, suc, ◌+◌, ◌-◌, ◌≤◌, ◌<◌}
+use borrow.Author.Tests.{ltb-true, eq-eqb, ne_eqb, lt-ltb, le-ltb}
 use Rattle.prelude.specs.Tests.{eq?}
 use Rattle.cnf.specs.Cnf.{Formula}
 use Rattle.numeral.specs.Number.{Read, byte_at, literal_at}
@@ -17,7 +17,7 @@ use Rattle.lrat.specs.Words.{plain_at, literals_at, ids_at, Run, run_at, Line, n
 use Rattle.lrat.specs.Words.Laws.{plain_reads, literal_reads, read_there, literals_none, literals_more, run_last, run_more, run_spaced, run_worded}
 use Rattle.lrat.specs.Words.Lines.{Ran, ran, deletion_none, deletion_open, deletion_good, addition_none, addition_hintless, addition_open, addition_good, line_none, line_open, line_deletion, line_addition}
 use Rattle.lrat.specs.Bytes.{AfterLiterals}
-use Rattle.lrat.specs.State.{stands_in, clause_at, without, hints_of, Deleted, deleted, delete_all, AddedInText, Hinted, AfterHints}
+use Rattle.lrat.specs.State.{stands_in, clause_at, last_id, without, hints_of, Deleted, deleted, delete_all, AddedInText, Hinted, AfterHints}
 use Rattle.lrat.specs.Outcome.{Outcome, outcome_of}
 use Rattle.lrat.specs.Results.{step_of_left, Leaves, Deletes, Ends}
 use Rattle.lrat.proofs.OutcomeLaws.{outcome_none}
@@ -26,7 +26,9 @@ use Rattle.refusal.specs.declared.Refusal.{Refusal}
 use Rattle.refusal.specs.declared.Refusal.TheVariants.{TextEnds}
 use Rattle.refusal.specs.Refusal.{number, number_of}
 use Rattle.refusal.specs.Refusal.Laws.{numbered_number, unless-ok, unless-number_of, number_some}
-use Rattle.lrat.proofs.StateAdded.{good_below, spelled_at, additions_more, additions_deleted}
+use Rattle.added.specs.Record.{Room, fits}
+use Rattle.added.proofs.RecordLaws.{fits_room}
+use Rattle.lrat.proofs.StateAdded.{good_below, spelled_at, additions_none, additions_more, additions_deleted}
 use Rattle.lrat.specs.Check.{Left, left, stop, is_empty, pushed, concluded, add_step, delete_step, step_of, line_step, on_left, lines_from, lines_of}
 
 -- ---- a line's result, by what it leaves
@@ -38,7 +40,7 @@ refused_is e k a next added z d =
 
 -- what a line that stops, or goes on, gives and leaves
 pub leaves : {m l : Left} {r : Result (Option Step) Refusal} → m ≡ l → r ≡ step_of_left m → Leaves l r m.added
-leaves {m = m} e f = record { result = f ∙ ap step_of_left e; pairs = ap (λ (x : Left). x.added) e }
+leaves {m = m} e f = record { result = f ∙ ap step_of_left e; records = ap (λ (x : Left). x.added) e }
 
 -- what is known of a line that stops is so of what the code returns
 pub stops_as : {l : Left} {r : Result (Option Step) Refusal} {k a : ℕ} {added : List ℕ} → r ≡ step_of_left (stop k a added) → stop k a added ≡ l → Leaves l r added
@@ -118,16 +120,16 @@ module _ (F : Formula) (t : List ℕ) (variables a : ℕ) (added : List ℕ) (id
         unfolding step_of
         by l e = e ∙ sym (ap (step_of F t variables a added) good_form)
 
-        pub add_id : (id ≡ length F + a + 1 → ⊥) → Is (stop 17 a added)
+        pub add_id : id ≤ last_id (length F) a added → Is (stop 17 a added)
         unfolding add_step
-        add_id d = by _ (rw (ne_eqb id (length F + a + 1) d))
+        add_id h = by _ (rw (le-ltb (last_id (length F) a added) id h))
 
-        module _ (same : id ≡ length F + a + 1) where
+        module _ (higher : last_id (length F) a added < id) where
           pub add_bad : ls.good ≡ false → Is (stop 18 a added)
           unfolding add_step
           add_bad e =
               let q : literals_good variables (literals_at t p) ≡ false = sym (passed.good there) ∙ e in
-              by _ (rw (eq-eqb id (length F + a + 1) same, q))
+              by _ (rw (lt-ltb (last_id (length F) a added) id higher, q))
 
           module _ (good : ls.good ≡ true) where
             good_is : literals_good variables (literals_at t p) ≡ true
@@ -147,26 +149,26 @@ module _ (F : Formula) (t : List ℕ) (variables a : ℕ) (added : List ℕ) (id
             unfolding hints_of
             add_not_one z = hinted_not_one _ _ (ids_at t ls.next) (falsified unset (literals_at t p)) (hints_are ∙ z)
 
-            pub add_full : (ls.end ≡ p → ⊥) → length added < 2 * a + 2 → Is (stop 22 a added)
+            pub add_full : (ls.end ≡ p → ⊥) → false ≡ fits (a + 1) added → Is (stop 22 a added)
             unfolding add_step
-            add_full d h = by _ (rw (eq-eqb id (length F + a + 1) same, good_is, empty_is, ne_eqb ls.end p d, lt-ltb (length added) (2 * a + 2) h))
+            add_full d h = by _ (rw (lt-ltb (last_id (length F) a added) id higher, good_is, empty_is, ne_eqb ls.end p d, ← h))
 
             pub add_none : ls.end ≡ p → hs.code ≡ 0 → Is (stop 1 a added)
             unfolding add_step concluded
-            add_none e z = by _ (rw (eq-eqb id (length F + a + 1) same, good_is, empty_is, eq-eqb ls.end p e, hints_are, eq-eqb hs.code 0 z))
+            add_none e z = by _ (rw (lt-ltb (last_id (length F) a added) id higher, good_is, empty_is, eq-eqb ls.end p e, hints_are, eq-eqb hs.code 0 z))
 
             pub add_empty : ls.end ≡ p → (hs.code ≡ 0 → ⊥) → Is (stop hs.code a added)
             unfolding add_step concluded
-            add_empty e z = by _ (rw (eq-eqb id (length F + a + 1) same, good_is, empty_is, eq-eqb ls.end p e, hints_are, ne_eqb hs.code 0 z))
+            add_empty e z = by _ (rw (lt-ltb (last_id (length F) a added) id higher, good_is, empty_is, eq-eqb ls.end p e, hints_are, ne_eqb hs.code 0 z))
 
-            module _ (some : ls.end ≡ p → ⊥) (room : 2 * a + 2 ≤ length added) where
+            module _ (some : ls.end ≡ p → ⊥) (room : true ≡ fits (a + 1) added) where
               pub add_refused : (hs.code ≡ 0 → ⊥) → Is (stop hs.code a added)
               unfolding add_step concluded
-              add_refused z = by _ (rw (eq-eqb id (length F + a + 1) same, good_is, empty_is, ne_eqb ls.end p some, le-ltb (length added) (2 * a + 2) room, hints_are, ne_eqb hs.code 0 z))
+              add_refused z = by _ (rw (lt-ltb (last_id (length F) a added) id higher, good_is, empty_is, ne_eqb ls.end p some, ← room, hints_are, ne_eqb hs.code 0 z))
 
-              pub add_pushed : hs.code ≡ 0 → Is (left 0 (a + 1) (hs.next + 1) (pushed added a p ls.end))
+              pub add_pushed : hs.code ≡ 0 → Is (left 0 (a + 1) (hs.next + 1) (pushed added a id p ls.end))
               unfolding add_step concluded
-              add_pushed z = by _ (rw (eq-eqb id (length F + a + 1) same, good_is, empty_is, ne_eqb ls.end p some, le-ltb (length added) (2 * a + 2) room, hints_are, eq-eqb hs.code 0 z))
+              add_pushed z = by _ (rw (lt-ltb (last_id (length F) a added) id higher, good_is, empty_is, ne_eqb ls.end p some, ← room, hints_are, eq-eqb hs.code 0 z))
 
               -- the literals have a byte at least
               pub add_length : p + 1 < ls.end
@@ -176,7 +178,7 @@ module _ (F : Formula) (t : List ℕ) (variables a : ℕ) (added : List ℕ) (id
                   omega (arith, r.full (λ z. some (e ∙ z)))
 
             -- hints without the conflict, whether the clause is empty or has a place
-            pub add_stops : ((ls.end ≡ p → ⊥) → 2 * a + 2 ≤ length added) → (hs.code ≡ 0 → ⊥) → Is (stop hs.code a added)
+            pub add_stops : ((ls.end ≡ p → ⊥) → true ≡ fits (a + 1) added) → (hs.code ≡ 0 → ⊥) → Is (stop hs.code a added)
             add_stops room z = ⊎_elim (λ e. add_empty e z) (λ d. add_refused d (room d) z) (eq? ls.end p)
 
   -- the places of the two runs
@@ -191,18 +193,18 @@ module _ (F : Formula) (t : List ℕ) (variables a : ℕ) (added : List ℕ) (id
 pub delete_low : (C a : ℕ) (added xs : List ℕ) → (delete_all C a added xs).code ≤ 24
 unfolding delete_all
 delete_low C a added [] = omega arith
-delete_low C a added (x ∷ xs) = go (stands_in C a added x) (delete_low C a (without C added x) xs)
+delete_low C a added (x ∷ xs) = go (stands_in C a added x) (delete_low C a (without C a added x) xs)
   where
-    go : (b : Bool) → (delete_all C a (without C added x) xs).code ≤ 24 → (cond b (delete_all C a (without C added x) xs) (deleted 19 added)).code ≤ 24
+    go : (b : Bool) → (delete_all C a (without C a added x) xs).code ≤ 24 → (cond b (delete_all C a (without C a added x) xs) (deleted 19 added)).code ≤ 24
     go true h = h
     go false h = omega arith
 
 pub delete_not_one : (C a : ℕ) (added xs : List ℕ) → (delete_all C a added xs).code ≡ 1 → ⊥
 unfolding delete_all
 delete_not_one C a added [] e = omega arith
-delete_not_one C a added (x ∷ xs) e = go (stands_in C a added x) (delete_not_one C a (without C added x) xs) e
+delete_not_one C a added (x ∷ xs) e = go (stands_in C a added x) (delete_not_one C a (without C a added x) xs) e
   where
-    go : (b : Bool) → ((delete_all C a (without C added x) xs).code ≡ 1 → ⊥) → (cond b (delete_all C a (without C added x) xs) (deleted 19 added)).code ≡ 1 → ⊥
+    go : (b : Bool) → ((delete_all C a (without C a added x) xs).code ≡ 1 → ⊥) → (cond b (delete_all C a (without C a added x) xs) (deleted 19 added)).code ≡ 1 → ⊥
     go true h q = h q
     go false h q = omega arith
 
@@ -232,12 +234,12 @@ module _ (F : Formula) (t : List ℕ) (variables a : ℕ) (added : List ℕ) (p 
     pub delete_refused : (x : Refusal) → r ≡ Err x → Leaves (step_of F t variables a added (deletion_at t p)) (Err x) l
     delete_refused x z =
         let k : (delete_all C a added (ids_at t p)).code ≡ number x = sym (ap number_of (sym z ∙ deletes.result) ∙ unless-number_of {A = Unit {0}} _ tt (delete_low C a added (ids_at t p))) in
-        subst (Leaves _ (Err x)) (sym deletes.pairs) (leaves deleted_is (refused_is x _ a (e + 1) (delete_all C a added (ids_at t p)).added k (delete_not_one C a added (ids_at t p))))
+        subst (Leaves _ (Err x)) (sym deletes.records) (leaves deleted_is (refused_is x _ a (e + 1) (delete_all C a added (ids_at t p)).added k (delete_not_one C a added (ids_at t p))))
 
     pub delete_accepted : (x : Unit {0}) → r ≡ Ok x → Leaves (step_of F t variables a added (deletion_at t p)) (Ok (Some (record { a = a; next = e + 1 }))) l
     delete_accepted x z =
         let k = (unless-ok _ tt x (sym deletes.result ∙ z)).0 in
-        subst (Leaves _ _) (sym deletes.pairs) (leaves deleted_is (rw (eq-eqb (delete_all C a added (ids_at t p)).code 0 k)))
+        subst (Leaves _ _) (sym deletes.records) (leaves deleted_is (rw (eq-eqb (delete_all C a added (ids_at t p)).code 0 k)))
 
   pub deletion_inside : (e ≡ 0 → ⊥) → (p < e) × (e ≤ length t)
   deletion_inside d =
@@ -264,19 +266,19 @@ module _ (F : Formula) (t : List ℕ) (variables a : ℕ) (added : List ℕ) (p 
     step_addition e d = sym (ap (step_of F t variables a added) (line_addition t p w is there e d))
 
 -- ---- a line after which the check goes on: further in the text, and every added clause lies in it
-pub record Went (t : List ℕ) (n p : ℕ) (l : Left) : Type 0 where
+pub record Went (C : ℕ) (t : List ℕ) (n p : ℕ) (l : Left) : Type 0 where
   pub low : p < l.next
   pub high : l.next ≤ length t
-  pub additions : AddedInText t l.a l.added n
+  pub additions : AddedInText C t l.a l.added n
 
-abbrev Goes : List ℕ → ℕ → ℕ → Left → Type 0
-Goes t n p l = l.code ≡ 0 → Went t n p l
+abbrev Goes : ℕ → List ℕ → ℕ → ℕ → Left → Type 0
+Goes C t n p l = l.code ≡ 0 → Went C t n p l
 
-stops : (t : List ℕ) (n p k a : ℕ) (added : List ℕ) → (k ≡ 0 → ⊥) → Goes t n p (stop k a added)
-stops t n p k a added d e = absurd (d e)
+stops : (C : ℕ) (t : List ℕ) (n p k a : ℕ) (added : List ℕ) → (k ≡ 0 → ⊥) → Goes C t n p (stop k a added)
+stops C t n p k a added d e = absurd (d e)
 
-module _ (F : Formula) (t : List ℕ) (variables a : ℕ) (added : List ℕ) (q : ℕ) (additions : AddedInText t a added (variables + 1)) where
-  deletion_goes : (p : ℕ) → q < p → Goes t (variables + 1) q (step_of F t variables a added (deletion_at t p))
+module _ (F : Formula) (t : List ℕ) (variables a : ℕ) (added : List ℕ) (q : ℕ) (additions : AddedInText (length F) t a added (variables + 1)) where
+  deletion_goes : (p : ℕ) → q < p → Goes (length F) t (variables + 1) q (step_of F t variables a added (deletion_at t p))
   unfolding step_of delete_step
   deletion_goes p l = go (eq? (run_at plain_at t p).next 0) (eq? (byte_at t (run_at plain_at t p).next) 10) (ran plain_at plain_reads t p)
     where
@@ -284,9 +286,9 @@ module _ (F : Formula) (t : List ℕ) (variables a : ℕ) (added : List ℕ) (q 
       e = (run_at plain_at t p).next
 
       go : (e ≡ 0) ⊎ (e ≡ 0 → ⊥) → (byte_at t e ≡ 10) ⊎ (byte_at t e ≡ 10 → ⊥) → ((e ≡ 0 → ⊥) → Ran t p (run_at plain_at t p))
-          → Goes t (variables + 1) q (step_of F t variables a added (deletion_at t p))
-      go (inl z) b k = rw (deletion_none t p e refl z) (stops t (variables + 1) q 16 a added (λ y. omega arith))
-      go (inr d) (inr o) k = rw (deletion_open t p e refl d o) (stops t (variables + 1) q 16 a added (λ y. omega arith))
+          → Goes (length F) t (variables + 1) q (step_of F t variables a added (deletion_at t p))
+      go (inl z) b k = rw (deletion_none t p e refl z) (stops (length F) t (variables + 1) q 16 a added (λ y. omega arith))
+      go (inr d) (inr o) k = rw (deletion_open t p e refl d o) (stops (length F) t (variables + 1) q 16 a added (λ y. omega arith))
       go (inr d) (inl o) k =
           rw (deletion_good t p e refl d o) (λ _. record {
             low = omega (arith, (k d).low, (k d).mid);
@@ -294,7 +296,7 @@ module _ (F : Formula) (t : List ℕ) (variables a : ℕ) (added : List ℕ) (q 
             additions = additions_deleted t (length F) a (ids_at t p) added (variables + 1) additions;
           })
 
-  addition_goes : (id p : ℕ) → q < p → Goes t (variables + 1) q (step_of F t variables a added (addition_at t id p))
+  addition_goes : (id p : ℕ) → q < p → Goes (length F) t (variables + 1) q (step_of F t variables a added (addition_at t id p))
   unfolding step_of add_step concluded
   addition_goes id p l =
       go (eq? m.next 0) (eq? h.next 0) (eq? (byte_at t h.next) 10) (ran literal_at literal_reads t p) (ran plain_at plain_reads t m.next)
@@ -305,60 +307,64 @@ module _ (F : Formula) (t : List ℕ) (variables a : ℕ) (added : List ℕ) (q 
       h : Run
       h = run_at plain_at t m.next
 
-      push : (m.next ≡ 0 → ⊥) → (h.next ≡ 0 → ⊥) → byte_at t h.next ≡ 10 → Ran t p m → Ran t m.next h → literals_good variables (literals_at t p) ≡ true
-          → (b : Bool) → is_empty (literals_at t p) ≡ b → (f : Bool) → ltb (length added) (2 * a + 2) ≡ f → (k : ℕ)
-          → Goes t (variables + 1) q (cond (not b && f) (stop 22 a added) (concluded k b a added p m.end (h.next + 1)))
-      push d e o r s g true z f w k c = absurd (no (eq? k 0) c)
+      push : (m.next ≡ 0 → ⊥) → (h.next ≡ 0 → ⊥) → byte_at t h.next ≡ 10 → Ran t p m → Ran t m.next h → last_id (length F) a added < id → literals_good variables (literals_at t p) ≡ true
+          → (b : Bool) → is_empty (literals_at t p) ≡ b → (f : Bool) → not (fits (a + 1) added) ≡ f → (k : ℕ)
+          → Goes (length F) t (variables + 1) q (cond (not b && f) (stop 22 a added) (concluded k b a added id p m.end (h.next + 1)))
+      push d e o r s i g true z f w k c = absurd (no (eq? k 0) c)
         where
           no : (k ≡ 0) ⊎ (k ≡ 0 → ⊥) → (cond (eqb k 0) (stop 1 a added) (stop k a added)).code ≡ 0 → ⊥
           no (inl y) x = let u : ◌≡◌ {A = ℕ} 1 0 = (rw (eq-eqb k 0 y) at x) in omega arith
           no (inr y) x = y (rw (ne_eqb k 0 y) at x)
-      push d e o r s g false z true w k c = absurd (omega arith)
-      push d e o r s g false z false w k c = went (eq? k 0) c
+      push d e o r s i g false z true w k c = absurd (omega arith)
+      push d e o r s i g false z false w k c = went (eq? k 0) c
         where
-          room : 2 * a + 2 ≤ length added
-          room = ltb-false (length added) (2 * a + 2) w
+          yes : (b : Bool) → not b ≡ false → true ≡ b
+          yes true y = refl
+          yes false y = cc
 
-          went : (k ≡ 0) ⊎ (k ≡ 0 → ⊥) → (cond (eqb k 0) (left 0 (a + 1) (h.next + 1) (pushed added a p m.end)) (stop k a added)).code ≡ 0
-              → Went t (variables + 1) q (cond (eqb k 0) (left 0 (a + 1) (h.next + 1) (pushed added a p m.end)) (stop k a added))
+          room : Room (a + 1) added
+          room = fits_room (a + 1) added (yes (fits (a + 1) added) w)
+
+          went : (k ≡ 0) ⊎ (k ≡ 0 → ⊥) → (cond (eqb k 0) (left 0 (a + 1) (h.next + 1) (pushed added a id p m.end)) (stop k a added)).code ≡ 0
+              → Went (length F) t (variables + 1) q (cond (eqb k 0) (left 0 (a + 1) (h.next + 1) (pushed added a id p m.end)) (stop k a added))
           went (inl y) x =
               rw (eq-eqb k 0 y)
               (record {
                 low = omega (arith, r.low, r.mid, s.low, s.mid);
                 high = omega (arith, byte_in t h.next (λ u. omega arith));
-                additions = additions_more t a added (variables + 1) (p + 1) (m.end - (p + 1)) room additions
+                additions = additions_more (length F) a added id (p + 1) (m.end - (p + 1)) room i t (variables + 1) additions
                     (spelled_at t p (variables + 1) d (run_spaced plain_at plain_reads t m.next e) (good_below variables (literals_at t p) g));
               })
           went (inr y) x = absurd (y (rw (ne_eqb k 0 y) at x))
 
-      good : (m.next ≡ 0 → ⊥) → (h.next ≡ 0 → ⊥) → byte_at t h.next ≡ 10 → Ran t p m → Ran t m.next h
+      good : (m.next ≡ 0 → ⊥) → (h.next ≡ 0 → ⊥) → byte_at t h.next ≡ 10 → Ran t p m → Ran t m.next h → last_id (length F) a added < id
           → (b : Bool) → literals_good variables (literals_at t p) ≡ b
-          → Goes t (variables + 1) q (cond b
-          (cond (not (is_empty (literals_at t p)) && ltb (length added) (2 * a + 2)) (stop 22 a added)
-          (concluded (hints_of F t a added (falsified unset (literals_at t p)) m.next) (is_empty (literals_at t p)) a added p m.end (h.next + 1)))
+          → Goes (length F) t (variables + 1) q (cond b
+          (cond (not (is_empty (literals_at t p)) && not (fits (a + 1) added)) (stop 22 a added)
+          (concluded (hints_of F t a added (falsified unset (literals_at t p)) m.next) (is_empty (literals_at t p)) a added id p m.end (h.next + 1)))
           (stop 18 a added))
-      good d e o r s true g =
-          push d e o r s g (is_empty (literals_at t p)) refl (ltb (length added) (2 * a + 2)) refl (hints_of F t a added (falsified unset (literals_at t p)) m.next)
-      good d e o r s false g = stops t (variables + 1) q 18 a added (λ y. omega arith)
+      good d e o r s i true g =
+          push d e o r s i g (is_empty (literals_at t p)) refl (not (fits (a + 1) added)) refl (hints_of F t a added (falsified unset (literals_at t p)) m.next)
+      good d e o r s i false g = stops (length F) t (variables + 1) q 18 a added (λ y. omega arith)
 
       add : (m.next ≡ 0 → ⊥) → (h.next ≡ 0 → ⊥) → byte_at t h.next ≡ 10 → Ran t p m → Ran t m.next h
-          → (b : Bool) → eqb id (length F + a + 1) ≡ b
-          → Goes t (variables + 1) q (cond b (cond (literals_good variables (literals_at t p))
-          (cond (not (is_empty (literals_at t p)) && ltb (length added) (2 * a + 2)) (stop 22 a added)
-          (concluded (hints_of F t a added (falsified unset (literals_at t p)) m.next) (is_empty (literals_at t p)) a added p m.end (h.next + 1)))
+          → (b : Bool) → ltb (last_id (length F) a added) id ≡ b
+          → Goes (length F) t (variables + 1) q (cond b (cond (literals_good variables (literals_at t p))
+          (cond (not (is_empty (literals_at t p)) && not (fits (a + 1) added)) (stop 22 a added)
+          (concluded (hints_of F t a added (falsified unset (literals_at t p)) m.next) (is_empty (literals_at t p)) a added id p m.end (h.next + 1)))
           (stop 18 a added)) (stop 17 a added))
-      add d e o r s true g = good d e o r s (literals_good variables (literals_at t p)) refl
-      add d e o r s false g = stops t (variables + 1) q 17 a added (λ y. omega arith)
+      add d e o r s true g = good d e o r s (ltb-true (last_id (length F) a added) id g) (literals_good variables (literals_at t p)) refl
+      add d e o r s false g = stops (length F) t (variables + 1) q 17 a added (λ y. omega arith)
 
       go : (m.next ≡ 0) ⊎ (m.next ≡ 0 → ⊥) → (h.next ≡ 0) ⊎ (h.next ≡ 0 → ⊥) → (byte_at t h.next ≡ 10) ⊎ (byte_at t h.next ≡ 10 → ⊥)
-          → ((m.next ≡ 0 → ⊥) → Ran t p m) → ((h.next ≡ 0 → ⊥) → Ran t m.next h) → Goes t (variables + 1) q (step_of F t variables a added (addition_at t id p))
-      go (inl z) b c k j = rw (addition_none t id p m.end m.next refl z) (stops t (variables + 1) q 16 a added (λ y. omega arith))
-      go (inr d) (inl z) c k j = rw (addition_hintless t id p m.end m.next refl d h.next refl z) (stops t (variables + 1) q 16 a added (λ y. omega arith))
-      go (inr d) (inr e) (inr o) k j = rw (addition_open t id p m.end m.next refl d h.next refl e o) (stops t (variables + 1) q 16 a added (λ y. omega arith))
+          → ((m.next ≡ 0 → ⊥) → Ran t p m) → ((h.next ≡ 0 → ⊥) → Ran t m.next h) → Goes (length F) t (variables + 1) q (step_of F t variables a added (addition_at t id p))
+      go (inl z) b c k j = rw (addition_none t id p m.end m.next refl z) (stops (length F) t (variables + 1) q 16 a added (λ y. omega arith))
+      go (inr d) (inl z) c k j = rw (addition_hintless t id p m.end m.next refl d h.next refl z) (stops (length F) t (variables + 1) q 16 a added (λ y. omega arith))
+      go (inr d) (inr e) (inr o) k j = rw (addition_open t id p m.end m.next refl d h.next refl e o) (stops (length F) t (variables + 1) q 16 a added (λ y. omega arith))
       go (inr d) (inr e) (inl o) k j =
-          rw (addition_good t id p m.end m.next refl d h.next refl e o) (add d e o (k d) (j e) (eqb id (length F + a + 1)) refl)
+          rw (addition_good t id p m.end m.next refl d h.next refl e o) (add d e o (k d) (j e) (ltb (last_id (length F) a added) id) refl)
 
-  pub line_goes : Goes t (variables + 1) q (line_step F t variables a added q)
+  pub line_goes : Goes (length F) t (variables + 1) q (line_step F t variables a added q)
   line_goes = go (eq? (plain_at t q).next 0) (eq? (byte_at t (plain_at t q).next) 32) (eq? (byte_at t ((plain_at t q).next + 1)) 100)
     where
       w : Read
@@ -368,13 +374,13 @@ module _ (F : Formula) (t : List ℕ) (variables a : ℕ) (added : List ℕ) (q 
       low d = (read_there plain_at plain_reads t q d).low
 
       go : (w.next ≡ 0) ⊎ (w.next ≡ 0 → ⊥) → (byte_at t w.next ≡ 32) ⊎ (byte_at t w.next ≡ 32 → ⊥)
-          → (byte_at t (w.next + 1) ≡ 100) ⊎ (byte_at t (w.next + 1) ≡ 100 → ⊥) → Goes t (variables + 1) q (line_step F t variables a added q)
-      go (inl z) b c = subst (Goes t (variables + 1) q) (step_none F t variables a added q w refl z) (stops t (variables + 1) q 16 a added (λ y. omega arith))
-      go (inr d) (inr o) c = subst (Goes t (variables + 1) q) (step_open F t variables a added q w refl d o) (stops t (variables + 1) q 16 a added (λ y. omega arith))
+          → (byte_at t (w.next + 1) ≡ 100) ⊎ (byte_at t (w.next + 1) ≡ 100 → ⊥) → Goes (length F) t (variables + 1) q (line_step F t variables a added q)
+      go (inl z) b c = subst (Goes (length F) t (variables + 1) q) (step_none F t variables a added q w refl z) (stops (length F) t (variables + 1) q 16 a added (λ y. omega arith))
+      go (inr d) (inr o) c = subst (Goes (length F) t (variables + 1) q) (step_open F t variables a added q w refl d o) (stops (length F) t (variables + 1) q 16 a added (λ y. omega arith))
       go (inr d) (inl e) (inl y) =
-          subst (Goes t (variables + 1) q) (step_deletion F t variables a added q w refl d e y) (deletion_goes (w.next + 2) (omega (arith, low d)))
+          subst (Goes (length F) t (variables + 1) q) (step_deletion F t variables a added q w refl d e y) (deletion_goes (w.next + 2) (omega (arith, low d)))
       go (inr d) (inl e) (inr y) =
-          subst (Goes t (variables + 1) q) (step_addition F t variables a added q w refl d e y) (addition_goes w.value w.next (low d))
+          subst (Goes (length F) t (variables + 1) q) (step_addition F t variables a added q w refl d e y) (addition_goes w.value w.next (low d))
 
 -- ---- a line adds one pair at most
 Few : ℕ → Left → Type 0
@@ -390,11 +396,11 @@ few_step F t variables a added no_line = omega arith
 few_step F t variables a added (deletion at next) = omega arith
 few_step F t variables a added (addition id at end hints next) =
     let one : Few a (stop 17 a added) = omega arith in
-    few_cond a (eqb id (length F + a + 1)) _ _
+    few_cond a (ltb (last_id (length F) a added) id) _ _
     (few_cond a (literals_good variables (literals_at t at)) _ _
-    (few_cond a (not (is_empty (literals_at t at)) && ltb (length added) (2 * a + 2)) _ _ one
+    (few_cond a (not (is_empty (literals_at t at)) && not (fits (a + 1) added)) _ _ one
     (few_cond a (eqb (hints_of F t a added (falsified unset (literals_at t at)) hints) 0) _ _
-    (few_cond a (is_empty (literals_at t at)) _ _ one (let m : Few a (left 0 (a + 1) next (pushed added a at end)) = omega arith in m)) one))
+    (few_cond a (is_empty (literals_at t at)) _ _ one (let m : Few a (left 0 (a + 1) next (pushed added a id at end)) = omega arith in m)) one))
     one)
     one
 
@@ -416,10 +422,10 @@ kept_step F t variables a added no_line = λ d. refl
 kept_step F t variables a added (deletion at next) = λ d. refl
 kept_step F t variables a added (addition id at end hints next) =
     let same : (k : ℕ) → Kept a (stop k a added) = λ k d. refl in
-    let more : Kept a (left 0 (a + 1) next (pushed added a at end)) = λ d. absurd (d refl) in
-    kept_cond a (eqb id (length F + a + 1)) _ _
+    let more : Kept a (left 0 (a + 1) next (pushed added a id at end)) = λ d. absurd (d refl) in
+    kept_cond a (ltb (last_id (length F) a added) id) _ _
     (kept_cond a (literals_good variables (literals_at t at)) _ _
-    (kept_cond a (not (is_empty (literals_at t at)) && ltb (length added) (2 * a + 2)) _ _ (same 22)
+    (kept_cond a (not (is_empty (literals_at t at)) && not (fits (a + 1) added)) _ _ (same 22)
     (kept_cond a (eqb (hints_of F t a added (falsified unset (literals_at t at)) hints) 0) _ _
     (kept_cond a (is_empty (literals_at t at)) _ _ (same 1) more) (same _)))
     (same 18))
@@ -443,12 +449,12 @@ unfolding Low step_of add_step delete_step concluded hints_of
 low_step F t variables a added no_line = omega arith
 low_step F t variables a added (deletion at next) = delete_low (length F) a added (ids_at t at)
 low_step F t variables a added (addition id at end hints next) =
-    low_cond (eqb id (length F + a + 1)) _ _
+    low_cond (ltb (last_id (length F) a added) id) _ _
     (low_cond (literals_good variables (literals_at t at)) _ _
-    (low_cond (not (is_empty (literals_at t at)) && ltb (length added) (2 * a + 2)) _ _ (omega arith)
+    (low_cond (not (is_empty (literals_at t at)) && not (fits (a + 1) added)) _ _ (omega arith)
     (low_cond (eqb (hints_of F t a added (falsified unset (literals_at t at)) hints) 0) _ _
     (low_cond (is_empty (literals_at t at)) _ _ (omega arith) (omega arith))
-    (hinted_low (stands_in (length F) a added) (clause_at F t added) (ids_at t hints) (falsified unset (literals_at t at)))))
+    (hinted_low (stands_in (length F) a added) (clause_at F t a added) (ids_at t hints) (falsified unset (literals_at t at)))))
     (omega arith))
     (omega arith)
 
@@ -470,7 +476,7 @@ pub record Going (F : Formula) (t : List ℕ) (variables : ℕ) (added₀ : List
   pub so_far : lines_of F t variables added₀ ≡ lines_from (length t - p) F t variables a added p
   pub inside : p ≤ length t
   pub few : a ≤ p
-  pub additions : AddedInText t a added (variables + 1)
+  pub additions : AddedInText (length F) t a added (variables + 1)
   pub long : length added ≡ length added₀
 
 pub going_start : (F : Formula) (t : List ℕ) (variables : ℕ) (added : List ℕ) → Going F t variables added 0 added 0
@@ -480,12 +486,12 @@ going_start F t variables added =
       so_far = ap (λ (f : ℕ). lines_from f F t variables 0 added 0) (let z : length t ≡ length t - 0 = omega arith in z);
       inside = omega arith;
       few = omega arith;
-      additions = record { long = omega arith; placed = λ k h. absurd (omega arith) };
+      additions = additions_none (length F) t added (variables + 1);
       long = refl;
     }
 
 -- any number of turns that reaches the text's end gives the same
-lines_same : (f g : ℕ) (F : Formula) (t : List ℕ) (variables a : ℕ) (added : List ℕ) (p : ℕ) → AddedInText t a added (variables + 1)
+lines_same : (f g : ℕ) (F : Formula) (t : List ℕ) (variables a : ℕ) (added : List ℕ) (p : ℕ) → AddedInText (length F) t a added (variables + 1)
     → length t ≤ p + f → length t ≤ p + g → lines_from f F t variables a added p ≡ lines_from g F t variables a added p
 unfolding lines_from
 lines_same zero zero F t variables a added p additions h k = refl
@@ -494,8 +500,8 @@ lines_same (suc f) zero F t variables a added p additions h k = rw (le-ltb p (le
 lines_same (suc f) (suc g) F t variables a added p additions h k =
     go (line_step F t variables a added p) (line_goes F t variables a added p additions) (λ b l q i x y. lines_same f g F t variables b l q i x y)
   where
-    go : (l : Left) → (l.code ≡ 0 → Went t (variables + 1) p l)
-        → ((b : ℕ) (m : List ℕ) (q : ℕ) → AddedInText t b m (variables + 1) → length t ≤ q + f → length t ≤ q + g → lines_from f F t variables b m q ≡ lines_from g F t variables b m q)
+    go : (l : Left) → (l.code ≡ 0 → Went (length F) t (variables + 1) p l)
+        → ((b : ℕ) (m : List ℕ) (q : ℕ) → AddedInText (length F) t b m (variables + 1) → length t ≤ q + f → length t ≤ q + g → lines_from f F t variables b m q ≡ lines_from g F t variables b m q)
         → cond (ltb p (length t)) (on_left l (λ b m q. lines_from f F t variables b m q)) (stop 23 a added)
         ≡ cond (ltb p (length t)) (on_left l (λ b m q. lines_from g F t variables b m q)) (stop 23 a added)
     go l w rest = ap (λ (x : Left). cond (ltb p (length t)) x (stop 23 a added)) (on (eq? l.code 0))
@@ -517,7 +523,7 @@ module _ {F : Formula} {t : List ℕ} {variables : ℕ} {added₀ : List ℕ} {a
     unfolding lines_from
     lines_stop d = sym (turn ∙ rw (lt-ltb p (length t) h, ← is, ne_eqb l.code 0 d))
 
-    pub lines_went : l.code ≡ 0 → Went t (variables + 1) p l
+    pub lines_went : l.code ≡ 0 → Went (length F) t (variables + 1) p l
     lines_went z = rw is (line_goes F t variables a added p s.additions (ap (λ (x : Left). x.code) (sym is) ∙ z))
 
     pub lines_kept : (l.code ≡ 0 → ⊥) → l.a ≡ a
@@ -531,20 +537,20 @@ module _ {F : Formula} {t : List ℕ} {variables : ℕ} {added₀ : List ℕ} {a
         record {
           outcome = q ∙ ap (λ (x : Left). outcome_of x.code) e;
           count = sym (lines_kept d) ∙ ap (λ (x : Left). x.a) e;
-          pairs = z ∙ ap (λ (x : Left). x.added) e;
+          records = z ∙ ap (λ (x : Left). x.added) e;
         }
 
     pub lines_none : (n : List ℕ) → Leaves l (Ok None) n → Ends (lines_of F t variables added₀) (record { outcome = Ok tt; count = a }) n
     lines_none n r =
         let z = none_is l r.result in
-        lines_ended (λ e. omega (arith, z, e)) (Ok tt) (outcome_none l.code z) n r.pairs
+        lines_ended (λ e. omega (arith, z, e)) (Ok tt) (outcome_none l.code z) n r.records
 
     pub lines_refused : (x : Refusal) (n : List ℕ) → Leaves l (Err x) n → Ends (lines_of F t variables added₀) (record { outcome = Err x; count = a }) n
     lines_refused x n r =
         let z = err_is l x r.result in
-        lines_ended z.0 (Err x) z.1 n r.pairs
+        lines_ended z.0 (Err x) z.1 n r.records
 
-    -- no more pairs than bytes
+    -- no more records than bytes
     pub lines_few : l.a ≤ p + 1
     lines_few = let h = step_few F t variables a added p in let e : l.a ≡ (line_step F t variables a added p).a = ap (λ (x : Left). x.a) is in omega (arith, s.few)
 
@@ -569,7 +575,7 @@ module _ {F : Formula} {t : List ℕ} {variables : ℕ} {added₀ : List ℕ} {a
         let w = lines_went q.0 in (
           subst (λ (b : ℕ). Going F t variables added₀ b n x.next) (sym q.1)
               (subst (λ (j : ℕ). Going F t variables added₀ l.a n j) (sym q.2)
-              (subst (λ (m : List ℕ). Going F t variables added₀ l.a m l.next) (sym r.pairs) (lines_more q.0 (ap length (sym r.pairs) ∙ k)))),
+              (subst (λ (m : List ℕ). Going F t variables added₀ l.a m l.next) (sym r.records) (lines_more q.0 (ap length (sym r.records) ∙ k)))),
           omega (arith, w.low, q.2),
           omega (arith, w.high, q.2),
         )
@@ -581,7 +587,7 @@ module _ {F : Formula} {t : List ℕ} {variables : ℕ} {added₀ : List ℕ} {a
       record {
         outcome = ap (λ (x : Left). outcome_of x.code) e;
         count = ap (λ (x : Left). x.a) e;
-        pairs = ap (λ (x : Left). x.added) e;
+        records = ap (λ (x : Left). x.added) e;
       }
 
 -- the lines never end in 0

@@ -3,6 +3,7 @@ pub mod BytesScan
 pub mod CheckLaws
 pub mod CheckSound
 pub mod OutcomeLaws
+pub mod Rising
 pub mod RulesSound
 pub mod StateAdded
 pub mod StateLaws

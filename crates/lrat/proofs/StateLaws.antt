@@ -1,13 +1,14 @@
 -- A clause by its id, one hint, and one deletion. Assumes nothing.
 use Rattle.std.proofs.Math.Path.{◌≡◌, sym, ap}
-use Rattle.std.specs.Prelude.{refl, Bool, not, cond, List, [], ◌∷◌, ◌⊎◌, ℕ, ◌+◌, ◌-◌, ◌*◌, ◌≤◌, ◌<◌, eqb, ℤ, length, get_or, set}
-use Rattle.std.proofs.Common.{◌∙◌, subst, inl, inr}
+use Rattle.std.specs.Prelude.{refl, Bool, not, cond, List, [], ◌∷◌, ◌⊎◌, ℕ, ◌+◌, ◌-◌, ◌*◌, ◌≤◌, ◌<◌, eqb, ℤ, length, get_or, set, Some, None}
+use Rattle.std.proofs.Common.{Option, ◌∙◌, subst, inl, inr}
 use Rattle.std.proofs.Math.Bool.{true, false}
 use Rattle.std.proofs.Math.Logic.{⊎_elim}
-use Rattle.std.proofs.Math.Option.{Option, none, some}
+use Rattle.std.proofs.Math.Option.{Option as Maybe, none, some}
 use native.Mathlib.Omega.{arith}
-use Rattle.std.proofs.Math.ListN.{length-set}
-use borrow.Author.Tests.{eq-eqb, ne_eqb, le-leb, lt-leb, lt-ltb, le-ltb}
+use Rattle.added.specs.Record.{offset_of, length_of, emptied, first_with}
+use Rattle.added.proofs.RecordLaws.{emptied_length, with_less}
+use borrow.Author.Tests.{eq-eqb, ne_eqb, le-leb, lt-leb}
 use Rattle.prelude.specs.Tests.{eq?, le?}
 use Rattle.prelude.specs.Lists.Laws.{length_tab, get_d_tab}
 use Rattle.cnf.specs.Cnf.{Clause, Formula}
@@ -20,7 +21,7 @@ use Rattle.lrat.specs.Words.Laws.{plain_reads, ids_none, ids_more, run_unspaced,
 use Rattle.lrat.specs.Bytes.{values_in, DuringLine, found_in, Below, stored_clause, store_from, formula_in}
 use Rattle.lrat.specs.Bytes.Laws.{set_false, set_during}
 use Rattle.lrat.proofs.BytesScan.{minus_most, sign_back}
-use Rattle.lrat.specs.State.{stands_in, clause_at, hints_of, deleted, without, delete_all, OriginalsInStore, AddedInText, AfterHint, Hinted, AfterHints}
+use Rattle.lrat.specs.State.{not_deleted, stands_in, Standing, clause_at, hints_of, deleted, without, delete_all, OriginalsInStore, AddedInText, AfterHint, Hinted, AfterHints}
 
 -- ---- whether a clause stands, by its tests
 module _ (C a : ℕ) (added : List ℕ) (x : ℕ) where
@@ -28,31 +29,29 @@ module _ (C a : ℕ) (added : List ℕ) (x : ℕ) where
   unfolding stands_in
   stands_original l h = rw (le-leb x C h, le-leb 1 x l)
 
-  pub stands_past : C < x → a ≤ x - C - 1 → false ≡ stands_in C a added x
-  unfolding stands_in
-  stands_past l h = rw (lt-leb x C l, le-ltb (x - C - 1) a h)
+  -- above C, by the first record with the id
+  module _ (above : C < x) where
+    stands_record : (o : Option ℕ) → o ≡ first_with a added x → not_deleted added o ≡ stands_in C a added x
+    unfolding stands_in
+    stands_record o e = rw (lt-leb x C above) (ap (not_deleted added) e)
 
-  pub stands_deleted : C < x → x - C - 1 < a → get_or added (2 * (x - C - 1) + 1) 0 ≡ 0 → false ≡ stands_in C a added x
-  unfolding stands_in
-  stands_deleted l h e = rw (lt-leb x C l, lt-ltb (x - C - 1) a h, eq-eqb (get_or added (2 * (x - C - 1) + 1) 0) 0 e)
+    pub stands_nowhere : None ≡ first_with a added x → false ≡ stands_in C a added x
+    stands_nowhere = stands_record None
 
-  pub stands_added : C < x → x - C - 1 < a → (get_or added (2 * (x - C - 1) + 1) 0 ≡ 0 → ⊥) → true ≡ stands_in C a added x
-  unfolding stands_in
-  stands_added l h d = rw (lt-leb x C l, lt-ltb (x - C - 1) a h, ne_eqb (get_or added (2 * (x - C - 1) + 1) 0) 0 d)
+    module _ (k : ℕ) (found : Some k ≡ first_with a added x) where
+      pub stands_deleted : length_of added k ≡ 0 → false ≡ stands_in C a added x
+      stands_deleted z = rw (eq-eqb (length_of added k) 0 z) at (stands_record (Some k) found)
 
-  pub stands_pair : C < x → x - C - 1 < a → not (eqb (get_or added (2 * (x - C - 1) + 1) 0) 0) ≡ stands_in C a added x
-  unfolding stands_in
-  stands_pair l h = rw (lt-leb x C l, lt-ltb (x - C - 1) a h)
+      pub stands_added : (length_of added k ≡ 0 → ⊥) → true ≡ stands_in C a added x
+      stands_added d = rw (ne_eqb (length_of added k) 0 d) at (stands_record (Some k) found)
 
-  no_both : {A : Type 0} → true ≡ stands_in C a added x → false ≡ stands_in C a added x → A
-  no_both e f = absurd (let z : ◌≡◌ {A = ℕ} 0 1 = cc in omega arith)
-
-  -- an added clause that stands has a pair, of some length
-  pub stands_inside : true ≡ stands_in C a added x → C < x → x - C - 1 < a
-  stands_inside e h = ⊎_elim (λ (l : a ≤ x - C - 1). no_both e (stands_past h l)) (λ (l : x - C - 1 < a). l) (le? a (x - C - 1))
-
-  pub stands_long : true ≡ stands_in C a added x → C < x → get_or added (2 * (x - C - 1) + 1) 0 ≡ 0 → ⊥
-  stands_long e h z = no_both e (stands_deleted h (stands_inside e h) z)
+  -- an added clause that stands has a record, of some length
+  pub stands_found : true ≡ stands_in C a added x → C < x → (k : ℕ) × Standing a added x k
+  stands_found e h = go (first_with a added x) refl
+    where
+      go : (o : Option ℕ) → o ≡ first_with a added x → (k : ℕ) × Standing a added x k
+      go None q = absurd (let z = stands_nowhere h q in cc)
+      go (Some k) q = (k, record { found = q; long = λ z. (let n = stands_deleted h k q z in absurd (cc)) })
 
   pub stands_named : true ≡ stands_in C a added x → 1 ≤ x
   unfolding stands_in
@@ -66,51 +65,48 @@ pub formula_in_length : (C : ℕ) (lits : List ℤ) (pairs : List ℕ) → lengt
 unfolding formula_in
 formula_in_length C lits pairs = length_tab 0 C (stored_clause lits pairs)
 
-pub clause_original : (C : ℕ) (lits : List ℤ) (pairs t added : List ℕ) (x : ℕ) → 1 ≤ x → x ≤ C
-    → clause_at (formula_in C lits pairs) t added x ≡ stored_clause lits pairs (x - 1)
+pub clause_original : (C : ℕ) (lits : List ℤ) (pairs t : List ℕ) (a : ℕ) (added : List ℕ) (x : ℕ) → 1 ≤ x → x ≤ C
+    → clause_at (formula_in C lits pairs) t a added x ≡ stored_clause lits pairs (x - 1)
 unfolding clause_at formula_in
-clause_original C lits pairs t added x l h =
+clause_original C lits pairs t a added x l h =
     rw (length_tab 0 C (stored_clause lits pairs), le-leb x C h) (get_d_tab 0 C (stored_clause lits pairs) (x - 1) [] (omega arith) ∙ ap (stored_clause lits pairs) (let z : 0 + (x - 1) ≡ x - 1 = omega arith in z))
 
-pub clause_added : (C : ℕ) (lits : List ℤ) (pairs t added : List ℕ) (x : ℕ) → C < x
-    → clause_at (formula_in C lits pairs) t added x ≡ literals_at t (get_or added (2 * (x - C - 1)) 0 - 1)
+pub clause_added : (C : ℕ) (lits : List ℤ) (pairs t : List ℕ) (a : ℕ) (added : List ℕ) (x k : ℕ) → C < x → Some k ≡ first_with a added x
+    → literals_at t (offset_of added k - 1) ≡ clause_at (formula_in C lits pairs) t a added x
 unfolding clause_at formula_in
-clause_added C lits pairs t added x h = rw (length_tab 0 C (stored_clause lits pairs), lt-leb x C h)
+clause_added C lits pairs t a added x k h e = rw (length_tab 0 C (stored_clause lits pairs), lt-leb x C h, ← e)
 
 -- the same over the numbers that its pair holds
-pub original_is : (C : ℕ) (lits : List ℤ) (pairs t added : List ℕ) (x from k : ℕ) → 1 ≤ x → x ≤ C
-    → from ≡ get_or pairs (2 * (x - 1)) 0 → k ≡ get_or pairs (2 * (x - 1) + 1) 0 → store_from k lits from ≡ clause_at (formula_in C lits pairs) t added x
+pub original_is : (C : ℕ) (lits : List ℤ) (pairs t : List ℕ) (a : ℕ) (added : List ℕ) (x from k : ℕ) → 1 ≤ x → x ≤ C
+    → from ≡ get_or pairs (2 * (x - 1)) 0 → k ≡ get_or pairs (2 * (x - 1) + 1) 0 → store_from k lits from ≡ clause_at (formula_in C lits pairs) t a added x
 unfolding stored_clause
-original_is C lits pairs t added x from k l h e f = rw (e, f) (sym (clause_original C lits pairs t added x l h))
+original_is C lits pairs t a added x from k l h e f = rw (e, f) (sym (clause_original C lits pairs t a added x l h))
 
 pub stored_below : (n : ℕ) (lits : List ℤ) (pairs : List ℕ) (j from k : ℕ) → from ≡ get_or pairs (2 * j) 0 → k ≡ get_or pairs (2 * j + 1) 0
     → Below n (stored_clause lits pairs j) → Below n (store_from k lits from)
 unfolding stored_clause
 stored_below n lits pairs j from k e f b = rw (e, f) b
 
-pub added_is : (C : ℕ) (lits : List ℤ) (pairs t added : List ℕ) (x o : ℕ) → C < x → o ≡ get_or added (2 * (x - C - 1)) 0
-    → literals_at t (o - 1) ≡ clause_at (formula_in C lits pairs) t added x
-added_is C lits pairs t added x o h e = rw e (sym (clause_added C lits pairs t added x h))
-
 -- the variables of a clause that stands
-pub clause_below : (C a : ℕ) (lits : List ℤ) (pairs t added : List ℕ) (n x : ℕ) → OriginalsInStore C lits pairs n → AddedInText t a added n → true ≡ stands_in C a added x
-    → Below n (clause_at (formula_in C lits pairs) t added x)
+pub clause_below : (C a : ℕ) (lits : List ℤ) (pairs t added : List ℕ) (n x : ℕ) → OriginalsInStore C lits pairs n → AddedInText C t a added n → true ≡ stands_in C a added x
+    → Below n (clause_at (formula_in C lits pairs) t a added x)
 clause_below C a lits pairs t added n x holds additions e = go (le? x C)
   where
-    go : (x ≤ C) ⊎ (C < x) → Below n (clause_at (formula_in C lits pairs) t added x)
+    go : (x ≤ C) ⊎ (C < x) → Below n (clause_at (formula_in C lits pairs) t a added x)
     go (inl h) =
         let l = stands_named C a added x e in
-        subst (Below n) (sym (clause_original C lits pairs t added x l h)) (holds.below (x - 1) (omega arith))
+        subst (Below n) (sym (clause_original C lits pairs t a added x l h)) (holds.below (x - 1) (omega arith))
     go (inr h) =
-        subst (Below n) (sym (clause_added C lits pairs t added x h))
-        (additions.placed (x - C - 1) (stands_inside C a added x e h) (stands_long C a added x e h)).below
+        let s = stands_found C a added x e h in
+        subst (Below n) (clause_added C lits pairs t a added x s.0 h s.1.found)
+        (additions.placed s.0 (with_less added a x s.0 s.1.found) s.1.long).below
 
 -- ---- the unset literal is one of the clause's
 found_inside : (τ : Values) (n : ℕ) (c : Clause) (v : ℕ) (m : Bool) → Below n c → found τ c ≡ Unset v m → v < n
 found_inside τ n [] v m b e = let z : ◌≡◌ {A = ℕ} 0 1 = cc in absurd (omega arith)
 found_inside τ n (l ∷ c) v m b e = go (literal_value τ l) (found τ c) e (found_inside τ n c v m b.1)
   where
-    go : (o : Option Bool) (f : Found) → before o l f ≡ Unset v m → (f ≡ Unset v m → v < n) → v < n
+    go : (o : Maybe Bool) (f : Found) → before o l f ≡ Unset v m → (f ≡ Unset v m → v < n) → v < n
     go none AllFalse q k =
         let z : l.variable ≡ v = cc in
         subst (λ (j : ℕ). j < n) z b.0.1
@@ -128,9 +124,9 @@ module _ (F : Formula) (t : List ℕ) (a : ℕ) (added : List ℕ) (g x : ℕ) (
   pub hint_gone : (r : ℕ) → r ≡ 19 → false ≡ stands_in (length F) a added x → AfterHint F t a added g x vs r vs
   hint_gone r z e = record { during = during; so = λ xs. rw (← e, z) }
 
-  module _ (stands : true ≡ stands_in (length F) a added x) (f : Found) (is : f ≡ found_in g vs (clause_at F t added x)) where
-    turn : (xs : List ℕ) → hinted (stands_in (length F) a added) (clause_at F t added) (values_in g vs) (x ∷ xs)
-        ≡ after_found f (λ v m. hinted (stands_in (length F) a added) (clause_at F t added) (assign (values_in g vs) v (not m)) xs)
+  module _ (stands : true ≡ stands_in (length F) a added x) (f : Found) (is : f ≡ found_in g vs (clause_at F t a added x)) where
+    turn : (xs : List ℕ) → hinted (stands_in (length F) a added) (clause_at F t a added) (values_in g vs) (x ∷ xs)
+        ≡ after_found f (λ v m. hinted (stands_in (length F) a added) (clause_at F t a added) (assign (values_in g vs) v (not m)) xs)
     unfolding found_in
     turn xs = rw (← stands, ← is)
 
@@ -152,8 +148,8 @@ pub record Hinting (F : Formula) (t : List ℕ) (at a : ℕ) (added : List ℕ) 
   pub during : DuringLine g vs
   pub long : length vs ≡ length vs₀
   pub form : run_at plain_at t at ≡ run_at plain_at t p
-  pub so_far : hinted (stands_in (length F) a added) (clause_at F t added) (values_in g vs₀) (ids_at t at)
-      ≡ cond (eqb code 21) (hinted (stands_in (length F) a added) (clause_at F t added) (values_in g vs) (ids_at t p)) code
+  pub so_far : hinted (stands_in (length F) a added) (clause_at F t a added) (values_in g vs₀) (ids_at t at)
+      ≡ cond (eqb code 21) (hinted (stands_in (length F) a added) (clause_at F t a added) (values_in g vs) (ids_at t p)) code
 
 pub hinting_start : (F : Formula) (t : List ℕ) (at a : ℕ) (added : List ℕ) (g : ℕ) (vs : List ℕ) → DuringLine g vs → Hinting F t at a added g vs at 21 vs
 hinting_start F t at a added g vs s = record { during = s; long = refl; form = refl; so_far = refl }
@@ -228,7 +224,7 @@ module _ {t : List ℕ} {C a : ℕ} {added₀ : List ℕ} {at : ℕ} {added : Li
   delete_end e = sym (s.so_far ∙ ap (delete_all C a added) e)
 
   module _ (x q : ℕ) (step : ids_at t p ≡ x ∷ ids_at t q) where
-    turned : delete_all C a added₀ (ids_at t at) ≡ cond (stands_in C a added x) (delete_all C a (without C added x) (ids_at t q)) (deleted 19 added)
+    turned : delete_all C a added₀ (ids_at t at) ≡ cond (stands_in C a added x) (delete_all C a (without C a added x) (ids_at t q)) (deleted 19 added)
     unfolding delete_all
     turned = s.so_far ∙ ap (delete_all C a added) step
 
@@ -239,6 +235,6 @@ module _ {t : List ℕ} {C a : ℕ} {added₀ : List ℕ} {at : ℕ} {added : Li
     unfolding without
     delete_original e l = record { so_far = turned ∙ rw (← e, le-leb x C l); long = s.long }
 
-    pub delete_added : true ≡ stands_in C a added x → C < x → Deleting t C a added₀ at (set added (2 * (x - C - 1) + 1) 0) q
+    pub delete_added : true ≡ stands_in C a added x → C < x → (k : ℕ) → Some k ≡ first_with a added x → Deleting t C a added₀ at (emptied added k) q
     unfolding without
-    delete_added e l = record { so_far = turned ∙ rw (← e, lt-leb x C l); long = length-set added (2 * (x - C - 1) + 1) 0 ∙ s.long }
+    delete_added e l k f = record { so_far = turned ∙ rw (← e, lt-leb x C l, ← f); long = emptied_length added k ∙ s.long }

@@ -1,11 +1,12 @@
 -- A line, and all lines of a text (document 01, "Checking a refutation"), over any formula. Assumes nothing.
-use Rattle.std.specs.Prelude.{Bool, true, false, not, ◌&&◌, cond, List, [], ◌∷◌, ℕ, zero, suc, ◌+◌, ◌-◌, ◌*◌, eqb, ltb, length, set}
+use Rattle.std.specs.Prelude.{Bool, true, false, not, ◌&&◌, cond, List, [], ◌∷◌, ℕ, zero, suc, ◌+◌, ◌-◌, eqb, ltb, length}
+use Rattle.added.specs.Record.{fits, recorded}
 use Rattle.cnf.specs.Cnf.{Clause, Formula}
 use Rattle.lrat.specs.Rules.{unset, falsified, literals_good, conflict, goes_on, says_none}
 use Rattle.lrat.specs.Words.{literals_at, ids_at, Line, no_line, addition, deletion, line_at}
-use Rattle.lrat.specs.State.{hints_of, delete_all}
+use Rattle.lrat.specs.State.{last_id, hints_of, delete_all}
 
--- what a line leaves: its code, the number of added pairs, the next line, the added pairs
+-- what a line leaves: its code, the number of added records, the next line, the added records
 pub record Left : Type 0 where
   pub code : ℕ
   pub a : ℕ
@@ -22,23 +23,24 @@ abbrev pub is_empty : Clause → Bool
 is_empty [] = true
 is_empty (l ∷ c) = false
 
--- pair a: "in bytes of the refutation's text from the first literal's first byte to the last literal's last"
-abbrev pub pushed : List ℕ → ℕ → ℕ → ℕ → List ℕ
-pushed added a at end = set (set added (2 * a) (at + 1)) (2 * a + 1) (end - (at + 1))
+-- record a: the clause's id, and its place "in bytes of the refutation's text from the first literal's first byte to the last literal's
+-- last"
+abbrev pub pushed : List ℕ → ℕ → ℕ → ℕ → ℕ → List ℕ
+pushed added a id at end = recorded added a id (at + 1) (end - (at + 1))
 
 -- a line whose hints ended in k: "The empty clause ends the check with \"none\"", another one is added
-unfoldable pub concluded : ℕ → Bool → ℕ → List ℕ → ℕ → ℕ → ℕ → Left
-concluded k empty a added at end next =
-    cond (eqb k conflict) (cond empty (stop says_none a added) (left goes_on (a + 1) next (pushed added a at end))) (stop k a added)
+unfoldable pub concluded : ℕ → Bool → ℕ → List ℕ → ℕ → ℕ → ℕ → ℕ → Left
+concluded k empty a added id at end next =
+    cond (eqb k conflict) (cond empty (stop says_none a added) (left goes_on (a + 1) next (pushed added a id at end))) (stop k a added)
 
--- "17 id not the next (first C+1); 18 literal outside ±V or variable twice; 22 no place for the pair of a non-empty clause; then
--- hints"
+-- "17 is now for an id not above C and the last"; "18 literal outside ±V or variable twice; 22 no place for the pair of a non-empty
+-- clause; then hints"
 unfoldable pub add_step : Formula → List ℕ → ℕ → ℕ → List ℕ → ℕ → ℕ → ℕ → ℕ → ℕ → Left
 add_step F t variables a added id at end hints next =
-    cond (eqb id (length F + a + 1))
+    cond (ltb (last_id (length F) a added) id)
     (cond (literals_good variables (literals_at t at))
-    (cond (not (is_empty (literals_at t at)) && ltb (length added) (2 * a + 2)) (stop 22 a added)
-    (concluded (hints_of F t a added (falsified unset (literals_at t at)) hints) (is_empty (literals_at t at)) a added at end next))
+    (cond (not (is_empty (literals_at t at)) && not (fits (a + 1) added)) (stop 22 a added)
+    (concluded (hints_of F t a added (falsified unset (literals_at t at)) hints) (is_empty (literals_at t at)) a added id at end next))
     (stop 18 a added))
     (stop 17 a added)
 

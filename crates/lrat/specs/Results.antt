@@ -38,18 +38,18 @@ step_of_left l =
     cond (eqb l.code goes_on) (Ok (Some (record { a = l.a; next = l.next })))
     (cond (eqb l.code says_none) (Ok None) (Err (numbered l.code)))
 
--- a line gives this result, and leaves these added pairs
+-- a line gives this result, and leaves these records
 pub record Leaves (l : Left) (r : Result (Option Step) Refusal) (added : List ℕ) : Type 0 where
   pub result : r ≡ step_of_left l
-  pub pairs : added ≡ l.added
+  pub records : added ≡ l.added
 
--- deletions that end in a code give this result, and leave these added pairs
+-- deletions that end in a code give this result, and leave these records
 pub record Deletes (d : Deleted) (r : Result (Unit {0}) Refusal) (added : List ℕ) : Type 0 where
   pub result : r ≡ unless d.code tt
-  pub pairs : added ≡ d.added
+  pub records : added ≡ d.added
 
 -- and all lines
 pub record Ends (l : Left) (r : Checked) (added : List ℕ) : Type 0 where
   pub outcome : r.outcome ≡ outcome_of l.code
   pub count : r.count ≡ l.a
-  pub pairs : added ≡ l.added
+  pub records : added ≡ l.added

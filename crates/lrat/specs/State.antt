@@ -1,5 +1,7 @@
 -- The clauses that stand, and hints and deletions over them. Assumes nothing.
-use Rattle.std.specs.Prelude.{◌≡◌, Bool, not, ◌&&◌, cond, List, [], ◌∷◌, ℕ, ◌+◌, ◌-◌, ◌*◌, ◌≤◌, ◌<◌, eqb, leb, ltb, ℤ, length, get_or, set}
+use Rattle.std.specs.Prelude.{◌≡◌, Bool, true, false, not, cond, List, [], ◌∷◌, ℕ, zero, suc, ◌+◌, ◌-◌, ◌*◌, ◌≤◌, ◌<◌, eqb, leb, ℤ, length, get_or, Some, None}
+use Rattle.std.proofs.Common.{Option}
+use Rattle.added.specs.Record.{Room, id_of, offset_of, length_of, emptied, first_with}
 use Rattle.cnf.specs.Cnf.{Clause, Formula}
 use Rattle.numeral.specs.Number.{byte_at, literal_at}
 use Rattle.lrat.specs.Rules.{Values, spent, goes_on, hinted}
@@ -7,20 +9,38 @@ use Rattle.lrat.specs.Words.{text_limit, plain_at, literals_at, ids_at, run_at}
 use Rattle.lrat.specs.Bytes.{last_stamp, values_in, DuringLine, Below, stored_clause}
 pub mod Props
 
--- whether clause x stands, of C original clauses and a added ones: "original clauses stay standing", and a deleted one's "pair's
--- length becomes 0"
-unfoldable pub stands_in : ℕ → ℕ → List ℕ → ℕ → Bool
-stands_in C a added x = cond (leb x C) (leb 1 x) (ltb (x - C - 1) a && not (eqb (get_or added (2 * (x - C - 1) + 1) 0) 0))
+-- whether a record that there may be is of a clause that stands: a deleted one's "pair's length becomes 0"
+abbrev pub not_deleted : List ℕ → Option ℕ → Bool
+not_deleted added None = false
+not_deleted added (Some k) = not (eqb (length_of added k) 0)
 
--- the literals of clause x: the formula's, or those that the text has from the place that its pair names on; "added clauses have
--- pairs in a slice of their own, in order of id"
-unfoldable pub clause_at : Formula → List ℕ → List ℕ → ℕ → Clause
-clause_at F t added x =
-    cond (leb x (length F)) (get_or F (x - 1) []) (literals_at t (get_or added (2 * (x - length F - 1)) 0 - 1))
+-- whether clause x stands, of C original clauses and a records: "original clauses stay standing", and above C the record with the id x
+-- says; a number between two ids has none
+unfoldable pub stands_in : ℕ → ℕ → List ℕ → ℕ → Bool
+stands_in C a added x = cond (leb x C) (leb 1 x) (not_deleted added (first_with a added x))
+
+-- record k is that of the id x, and its clause is not deleted
+pub record Standing (a : ℕ) (added : List ℕ) (x k : ℕ) : Type 0 where
+  pub found : Some k ≡ first_with a added x
+  pub long : length_of added k ≡ 0 → ⊥
+
+-- the literals of a clause by its record: those that the text has from the record's offset on
+abbrev pub text_clause : List ℕ → List ℕ → Option ℕ → Clause
+text_clause t added None = []
+text_clause t added (Some k) = literals_at t (offset_of added k - 1)
+
+-- the literals of clause x: the formula's, or those of the record with the id x
+unfoldable pub clause_at : Formula → List ℕ → ℕ → List ℕ → ℕ → Clause
+clause_at F t a added x = cond (leb x (length F)) (get_or F (x - 1) []) (text_clause t added (first_with a added x))
+
+-- the last id of a records, C before the first
+abbrev pub last_id : ℕ → ℕ → List ℕ → ℕ
+last_id C zero added = C
+last_id C (suc k) added = id_of added k
 
 -- what the hints from p on end in
 unfoldable pub hints_of : Formula → List ℕ → ℕ → List ℕ → Values → ℕ → ℕ
-hints_of F t a added τ p = hinted (stands_in (length F) a added) (clause_at F t added) τ (ids_at t p)
+hints_of F t a added τ p = hinted (stands_in (length F) a added) (clause_at F t a added) τ (ids_at t p)
 
 -- ---- "Deletion, left to right: 19 if an id doesn't stand; original clauses stay standing. Its pair's length becomes 0"
 pub record Deleted : Type 0 where
@@ -30,12 +50,16 @@ pub record Deleted : Type 0 where
 abbrev pub deleted : ℕ → List ℕ → Deleted
 deleted k l = record { code = k; added = l }
 
-unfoldable pub without : ℕ → List ℕ → ℕ → List ℕ
-without C added x = cond (leb x C) added (set added (2 * (x - C - 1) + 1) 0)
+abbrev pub emptied_at : List ℕ → Option ℕ → List ℕ
+emptied_at added None = added
+emptied_at added (Some k) = emptied added k
+
+unfoldable pub without : ℕ → ℕ → List ℕ → ℕ → List ℕ
+without C a added x = cond (leb x C) added (emptied_at added (first_with a added x))
 
 unfoldable pub delete_all : ℕ → ℕ → List ℕ → List ℕ → Deleted
 delete_all C a added [] = deleted goes_on added
-delete_all C a added (x ∷ xs) = cond (stands_in C a added x) (delete_all C a (without C added x) xs) (deleted 19 added)
+delete_all C a added (x ∷ xs) = cond (stands_in C a added x) (delete_all C a (without C a added x) xs) (deleted 19 added)
 
 -- ---- where clauses lie
 -- each of the store's first C pairs is inside, and its variables are below n
@@ -51,10 +75,16 @@ pub record Spelled (t : List ℕ) (o n : ℕ) : Type 0 where
   pub after : byte_at t (run_at literal_at t (o - 1)).next ≡ 32
   pub below : Below n (literals_at t (o - 1))
 
--- each added clause that is not deleted lies in the text
-pub record AddedInText (t : List ℕ) (a : ℕ) (added : List ℕ) (n : ℕ) : Type 0 where
-  pub long : 2 * a ≤ length added
-  pub placed : (k : ℕ) → k < a → (get_or added (2 * k + 1) 0 ≡ 0 → ⊥) → Spelled t (get_or added (2 * k) 0) n
+-- ids rise from C on: record k's is above C, and those from one record to a later one are as many at least as the records
+pub record Rising (C a : ℕ) (added : List ℕ) : Type 0 where
+  pub above : (k : ℕ) → k < a → C < id_of added k
+  pub apart : (j k : ℕ) → j ≤ k → k < a → id_of added j + k ≤ id_of added k + j
+
+-- the records lie in their slice, their ids rise, and each clause that is not deleted lies in the text
+pub record AddedInText (C : ℕ) (t : List ℕ) (a : ℕ) (added : List ℕ) (n : ℕ) : Type 0 where
+  pub room : Room a added
+  pub rising : Rising C a added
+  pub placed : (k : ℕ) → k < a → (length_of added k ≡ 0 → ⊥) → Spelled t (offset_of added k) n
 
 -- how many values there may be: V + 1 of them
 abbrev pub values_limit : ℕ
@@ -65,10 +95,10 @@ pub record Ready (C : ℕ) (lits : List ℤ) (pairs t : List ℕ) (a : ℕ) (add
   -- the original clauses lie in the store, with variables below n
   pub originals : OriginalsInStore C lits pairs n
   -- the added clauses that are not deleted lie in the text, with variables below n
-  pub additions : AddedInText t a added n
+  pub additions : AddedInText C t a added n
   -- a variable is far below what a literal of the store can hold
   pub values_fit : n ≤ values_limit
-  -- a place of the text fits into an entry of the added pairs
+  -- a place of the text fits into an entry of a record
   pub text_fits : length t ≤ text_limit
   -- the stamp and the one above it fit into a byte
   pub stamp_fits : g ≤ last_stamp
@@ -78,8 +108,8 @@ pub record Ready (C : ℕ) (lits : List ℤ) (pairs t : List ℕ) (a : ℕ) (add
 pub record AfterHint (F : Formula) (t : List ℕ) (a : ℕ) (added : List ℕ) (g x : ℕ) (before : List ℕ) (code : ℕ) (vs : List ℕ)
     : Type 0 where
   pub during : DuringLine g vs
-  pub so : (xs : List ℕ) → hinted (stands_in (length F) a added) (clause_at F t added) (values_in g before) (x ∷ xs)
-      ≡ cond (eqb code spent) (hinted (stands_in (length F) a added) (clause_at F t added) (values_in g vs) xs) code
+  pub so : (xs : List ℕ) → hinted (stands_in (length F) a added) (clause_at F t a added) (values_in g before) (x ∷ xs)
+      ≡ cond (eqb code spent) (hinted (stands_in (length F) a added) (clause_at F t a added) (values_in g vs) xs) code
 
 -- where the run of the hints ends, 0 if it has not the form, and what they end in
 pub record Hinted : Type 0 where

@@ -36,14 +36,14 @@ pub struct HintsRead {
     pub outcome: Result<(), Refusal>,
 }
 
-// What a line leaves after which the check goes on: the number of added pairs, and the next line.
+// What a line leaves after which the check goes on: the number of added records, and the next line.
 #[derive(Clone, Copy, Debug, PartialEq, Eq)]
 pub struct Step {
     pub a: usize,
     pub next: usize,
 }
 
-// What a check ends in, Ok in "none", and the number of added pairs.
+// What a check ends in, Ok in "none", and the number of added records.
 #[derive(Clone, Copy, Debug, PartialEq, Eq)]
 pub struct Checked {
     pub outcome: Result<(), Refusal>,

@@ -67,7 +67,7 @@ module _ (q : Request) (text : List ℕ) (literals : List ℤ) (pairs added valu
         ap (λ (n : ℕ). lines_of (formula_in size.clauses l p) text n added) g.variables_are in (
           sames x _ _ e.outcome e.count ∙ goes_answer q text before g.taken enough short (formula_in size.clauses l p) formula-is m k _ refl,
           ap (λ (k : ℕ). lent l p n (v ++ drop (k + 1) values)) g.variables_are
-              ∙ ap (λ (k : List ℕ). lent l p k (v ++ drop (stored_variables q + 1) values)) e.pairs
+              ∙ ap (λ (k : List ℕ). lent l p k (v ++ drop (stored_variables q + 1) values)) e.records
               ∙ goes_slices q text before g.taken enough short (formula_in size.clauses l p) formula-is m k l p v l-is p-is
               (z ∙ ap (λ (n : ℕ). zeros (n + 1)) g.variables_are),
         )

@@ -34,20 +34,20 @@ pub literals_drop : (l : List ℤ) (i : ℕ) → i < length l → map literal_fr
 literals_drop l i h = rw (drop-cons l i (pos 0) h, add-one)
 
 -- the part of the store that a pair names is the clause
-pub original_part : (C : ℕ) (lits : List ℤ) (pairs t added : List ℕ) (x : ℕ) → 1 ≤ x → x ≤ C
+pub original_part : (C : ℕ) (lits : List ℤ) (pairs t : List ℕ) (a : ℕ) (added : List ℕ) (x : ℕ) → 1 ≤ x → x ≤ C
     → get_or pairs (2 * (x - 1)) 0 + get_or pairs (2 * (x - 1) + 1) 0 ≤ length lits
     → map literal_from (take (get_or pairs (2 * (x - 1)) 0 + get_or pairs (2 * (x - 1) + 1) 0 - get_or pairs (2 * (x - 1)) 0) (drop (get_or pairs (2 * (x - 1)) 0) lits))
-    ≡ clause_at (formula_in C lits pairs) t added x
-original_part C lits pairs t added x l h i =
+    ≡ clause_at (formula_in C lits pairs) t a added x
+original_part C lits pairs t a added x l h i =
     let from = get_or pairs (2 * (x - 1)) 0 in
     let n = get_or pairs (2 * (x - 1) + 1) 0 in
     ap (λ (k : ℕ). map literal_from (take k (drop from lits))) (let z : from + n - from ≡ n = omega arith in z)
-    ∙ sym (store_part n lits from i) ∙ original_is C lits pairs t added x from n l h refl refl
+    ∙ sym (store_part n lits from i) ∙ original_is C lits pairs t a added x from n l h refl refl
 
-pub original_below : (C : ℕ) (lits : List ℤ) (pairs t added : List ℕ) (x : ℕ) → 1 ≤ x → x ≤ C
-    → get_or pairs (2 * (x - 1)) 0 + get_or pairs (2 * (x - 1) + 1) 0 ≤ length lits → (m n : ℕ) → m ≡ n → Below n (clause_at (formula_in C lits pairs) t added x)
+pub original_below : (C : ℕ) (lits : List ℤ) (pairs t : List ℕ) (a : ℕ) (added : List ℕ) (x : ℕ) → 1 ≤ x → x ≤ C
+    → get_or pairs (2 * (x - 1)) 0 + get_or pairs (2 * (x - 1) + 1) 0 ≤ length lits → (m n : ℕ) → m ≡ n → Below n (clause_at (formula_in C lits pairs) t a added x)
     → Below m (map literal_from (take (get_or pairs (2 * (x - 1)) 0 + get_or pairs (2 * (x - 1) + 1) 0 - get_or pairs (2 * (x - 1)) 0) (drop (get_or pairs (2 * (x - 1)) 0) lits)))
-original_below C lits pairs t added x l h i m n e b = rw e (subst (Below n) (sym (original_part C lits pairs t added x l h i)) b)
+original_below C lits pairs t a added x l h i m n e b = rw e (subst (Below n) (sym (original_part C lits pairs t a added x l h i)) b)
 
 -- ---- a word of a run: where it ends, and the literals from there on
 module _ (t : List ℕ) (q : ℕ) (w : Word) (is : Is (literal_at t q) w) where

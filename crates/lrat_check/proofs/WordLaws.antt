@@ -66,4 +66,4 @@ ids_wordless t p e = ⊎_elim
     (number_ways t (p + 1) 0 (omega arith))
 
 pub deletes : (d : Deleted) (k : ℕ) (l : List ℕ) → deleted k l ≡ d → {r : Result (Unit {0}) Refusal} → r ≡ unless k tt → Deletes d r l
-deletes d k l e f = record { result = f ∙ ap (λ (x : Deleted). unless x.code tt) e; pairs = ap (λ (x : Deleted). x.added) e }
+deletes d k l e f = record { result = f ∙ ap (λ (x : Deleted). unless x.code tt) e; records = ap (λ (x : Deleted). x.added) e }

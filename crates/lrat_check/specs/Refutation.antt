@@ -12,7 +12,7 @@ pub mod Seam
 pub mod Laws
 pub mod Sound
 
--- the slices that a check is lent: literals and pairs of the store, pairs of added clauses, values
+-- the slices that a check is lent: literals and pairs of the store, records of added clauses, values
 pub record Lent : Type 0 where
   pub literals : List ℤ
   pub pairs : List ℕ

@@ -13,7 +13,7 @@ use lrat::Checked;
 use refusal::Refusal;
 use request::Request;
 
-// What the check ends in, and in count the number of added pairs: the refusals before the lines write nothing; past them the store is
+// What the check ends in, and in count the number of added records: the refusals before the lines write nothing; past them the store is
 // filled, its sizes are V, C and T, and the lines are followed.
 fn outcome(
     q: Request,

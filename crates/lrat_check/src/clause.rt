@@ -1,14 +1,15 @@
 // A clause by its id: whether it stands, and what its literals are under the values. An original clause is read from the store,
 // an added one from the text, where its line has been read already.
-ghost use Rattle.std.specs.Prelude.{◌≡◌, true, ◌+◌, ◌-◌, ◌≤◌, ◌<◌, map, length};
+ghost use Rattle.std.specs.Prelude.{◌≡◌, true, false, ◌+◌, ◌-◌, ◌≤◌, ◌<◌, map, length, MatchOption};
 ghost use Rattle.numeral.specs.Number.{byte_at, number_at, literal_at};
 ghost use Rattle.numeral.specs.Number.Words.{sign_number, Is};
 ghost use Rattle.lrat.specs.Words.{text_limit, literals_at, run_at};
 ghost use Rattle.lrat.specs.Bytes.{DuringLine, found_in, Below, literal_from, formula_in};
 ghost use Rattle.lrat.specs.Bytes.Scan.{with_literal};
-ghost use Rattle.lrat.specs.State.{stands_in, clause_at, values_limit, OriginalsInStore, AddedInText, Spelled};
+ghost use Rattle.lrat.specs.State.{stands_in, Standing, clause_at, values_limit, OriginalsInStore, AddedInText, Spelled};
 ghost use Rattle.lrat.specs.State.Props.{clause_props};
 
+use crate::records;
 use crate::stamp::Stamp;
 use lrat::Found;
 use numeral::Word;
@@ -26,13 +27,13 @@ pub(crate) struct Store<'a> {
     ghost text_fits: { length text.now ≤ text_limit },
 }
 
-// The clauses that there are at a line: the original ones, and a added ones, whose pairs say where the text has them.
+// The clauses that there are at a line: the original ones, and a added ones, whose records say where the text has them.
 #[derive(Clone, Copy)]
 pub(crate) struct Clauses<'a> {
     pub(crate) store: Store<'a>,
     pub(crate) added: &'a [u32],
     pub(crate) a: usize,
-    ghost additions: { AddedInText store.text.now a added.now (store.variables + 1) } by { Prim.hlevel clause_props },
+    ghost additions: { AddedInText store.count store.text.now a added.now (store.variables + 1) } by { Prim.hlevel clause_props },
 }
 
 // The values during a line: a byte below the line's stamp is an unset variable's, the stamp is false, the one above it true.
@@ -126,32 +127,36 @@ fn evaluate_original(literals: &[i32], values: Values) -> Found
 }
 
 impl Clauses<'_> {
-    // Whether clause x stands.
-    pub(crate) fn stands(self, x: usize) -> bool
-        requires { 1 ≤ x }
-        ensures { result ≡ stands_in self.entry.store.count self.entry.a self.entry.added.now x }
+    // The record of clause x, an added one; none where it does not stand.
+    pub(crate) fn standing(self, x: usize) -> Option<usize>
+        requires { self.store.count < x }
+        ensures { MatchOption result (false ≡ stands_in self.entry.store.count self.entry.a self.entry.added.now x)
+            (λ k. Standing self.entry.a self.entry.added.now x k) }
     {
-        if x <= self.store.count {
-            return true;
+        let k = records::find(self.added, self.a, self.store.count, x)?;
+        if records::length(self.added, k) == 0 {
+            return None;
         }
-        let k = x - self.store.count - 1;
-        k < self.a && self.added[2 * k + 1] != 0
+        Some(k)
     }
 
-    // What clause x, which stands, is under the values.
-    pub(crate) fn evaluate(self, x: usize, values: Values) -> Found
-        requires standing { true ≡ stands_in self.store.count self.a self.added.now x }
+    // What clause x is under the values; none where it does not stand.
+    pub(crate) fn evaluate(self, x: usize, values: Values) -> Option<Found>
+        requires named { 1 ≤ x }
         requires long { length values.bytes.now ≡ self.store.variables + 1 }
-        ensures { result ≡ found_in values.entry.stamp.byte values.entry.bytes.now
-            (clause_at (formula_in self.entry.store.count self.entry.store.literals.now self.entry.store.pairs.now) self.entry.store.text.now self.entry.added.now x) }
+        ensures { MatchOption result (false ≡ stands_in self.entry.store.count self.entry.a self.entry.added.now x)
+            (λ found. (true ≡ stands_in self.entry.store.count self.entry.a self.entry.added.now x)
+            × (found ≡ found_in values.entry.stamp.byte values.entry.bytes.now
+            (clause_at (formula_in self.entry.store.count self.entry.store.literals.now self.entry.store.pairs.now) self.entry.store.text.now
+            self.entry.a self.entry.added.now x))) }
     {
         if x <= self.store.count {
             let k = 2 * (x - 1);
             let from = self.store.pairs[k] as usize;
             let n = self.store.pairs[k + 1] as usize;
-            return evaluate_original(&self.store.literals[from..from + n], values);
+            return Some(evaluate_original(&self.store.literals[from..from + n], values));
         }
-        let k = 2 * (x - self.store.count - 1);
-        evaluate_added(self.store.text, self.added[k] as usize, values)
+        let k = self.standing(x)?;
+        Some(evaluate_added(self.store.text, records::offset(self.added, k), values))
     }
 }

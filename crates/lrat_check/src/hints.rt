@@ -23,16 +23,16 @@ impl Clauses<'_> {
             self.entry.store.text.now self.entry.a self.entry.added.now stamp.byte x values.old (hint_code result) values.new }
         ensures ends { IfSome result (λ outcome. number_of outcome ≡ spent → ⊥) }
     {
-        if !self.stands(x) {
-            return Some(Err(Refusal::NotStanding));
-        }
-        match self.evaluate(
+        let Some(found) = self.evaluate(
             x,
             Values {
                 bytes: values,
                 stamp,
             },
-        ) {
+        ) else {
+            return Some(Err(Refusal::NotStanding));
+        };
+        match found {
             Found::AllFalse => Some(Ok(())),
             Found::Unset(variable, minus) => {
                 values[variable] = stamp.of(!minus);

@@ -6,8 +6,8 @@
 // crate lrat, over any formula; here the formula is the one that the store holds.
 //
 // check.rt is the operation, lines.rt follows line after line, and a line goes through literals.rt, then through hints.rt, which
-// looks at the hints' clauses through clause.rt; words.rt reads the ids of hints and of deletions, and stamp.rt has a line's stamp.
-// The paragraph on top of each says which refusals are decided there.
+// looks at the hints' clauses through clause.rt, which finds added ones by records.rt; words.rt reads the ids of hints and of
+// deletions, and stamp.rt has a line's stamp. The paragraph on top of each says which refusals are decided there.
 #![tactic(auto)]
 
 pub mod check;
@@ -15,5 +15,6 @@ mod clause;
 mod hints;
 mod lines;
 mod literals;
+mod records;
 mod stamp;
 mod words;

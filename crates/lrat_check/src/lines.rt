@@ -1,11 +1,11 @@
-// The lines of a text, one after the other. Decided here: 16 for a bad form, 17 for an id that is not the next, 22 for no place, 19
-// for a deletion of a clause that does not stand, 23 where the text ends. 18 comes from literals.rt, 19 to 21 of a hint from
-// hints.rt.
+// The lines of a text, one after the other. Decided here: 16 for a bad form, 17 for an id that is not above C and the last one, 22 for
+// no room for a record, 19 for a deletion of a clause that does not stand, 23 where the text ends. 18 comes from literals.rt, 19 to 21
+// of a hint from hints.rt.
 //
-// The added pairs and the values are lent by a `&mut` of their own beside what only reads. A struct of both would be no plainer: what
-// changes the pairs does not change the values. Nor would one of the values and the stamp: one thing holds of them before a line's
-// literals and another after, so that no ghost field says either. The number of added pairs is lent too, so that refusals go up by `?`.
-ghost use Rattle.std.specs.Prelude.{◌≡◌, ◌+◌, ◌≤◌, length};
+// The added records and the values are lent by a `&mut` of their own beside what only reads. A struct of both would be no plainer: what
+// changes the records does not change the values. Nor would one of the values and the stamp: one thing holds of them before a line's
+// literals and another after, so that no ghost field says either. The number of added records is lent too, so that refusals go up by `?`.
+ghost use Rattle.std.specs.Prelude.{◌≡◌, ◌+◌, ◌≤◌, ◌<◌, length};
 ghost use Rattle.lrat.specs.Words.{ids_at, deletion_at, addition_at};
 ghost use Rattle.lrat.specs.Bytes.{DuringLine, BeforeLine, zeros, formula_in};
 ghost use Rattle.lrat.specs.State.{delete_all, AddedInText};
@@ -14,13 +14,13 @@ ghost use Rattle.lrat.specs.Results.{Leaves, Deletes, Ends};
 
 use crate::clause::{Clauses, Store};
 use crate::stamp::Stamp;
-use crate::{literals, words};
+use crate::{literals, records, words};
 use lrat::Step;
 use refusal::Refusal;
 
 // Deletes the clauses of the ids after the place at, left to right, up to one that does not stand.
 fn delete(store: Store, at: usize, a: usize, added: &mut [u32]) -> Result<(), Refusal>
-    requires { (at ≤ length store.text.now) × AddedInText store.text.now a added.old (store.variables + 1) }
+    requires { (at ≤ length store.text.now) × AddedInText store.count store.text.now a added.old (store.variables + 1) }
     ensures { Deletes (delete_all store.entry.count a added.old (ids_at store.entry.text.now at)) result added.new }
 {
     let mut p = at;
@@ -30,11 +30,11 @@ fn delete(store: Store, at: usize, a: usize, added: &mut [u32]) -> Result<(), Re
         if x == 0 {
             return Ok(());
         }
-        if !(Clauses { store, added, a }).stands(x) {
-            return Err(Refusal::NotStanding);
-        }
         if store.count < x {
-            added[2 * (x - store.count - 1) + 1] = 0;
+            let Some(k) = (Clauses { store, added, a }).standing(x) else {
+                return Err(Refusal::NotStanding);
+            };
+            records::empty(added, k);
         }
         p = id.next;
     }
@@ -43,7 +43,7 @@ fn delete(store: Store, at: usize, a: usize, added: &mut [u32]) -> Result<(), Re
 
 // A deletion whose ids start after the place at.
 fn deletion(store: Store, at: usize, a: usize, added: &mut [u32]) -> Result<Option<Step>, Refusal>
-    requires { AddedInText store.text.now a added.old (store.variables + 1) }
+    requires { AddedInText store.count store.text.now a added.old (store.variables + 1) }
     ensures { Leaves (step_of (formula_in store.entry.count store.entry.literals.now store.entry.pairs.now)
         store.entry.text.now store.entry.variables a added.old (deletion_at store.entry.text.now at)) result added.new }
 {
@@ -68,8 +68,9 @@ fn addition(
     values: &mut [u8],
     stamp: Stamp,
 ) -> Result<Option<Step>, Refusal>
+    requires id_small { id < 1000000000 }
     requires values_len { length values.old ≡ store.variables + 1 }
-    requires additions { AddedInText store.text.now a added.old (store.variables + 1) }
+    requires additions { AddedInText store.count store.text.now a added.old (store.variables + 1) }
     requires before_line { BeforeLine stamp.byte values.old }
     ensures step { Leaves (step_of (formula_in store.entry.count store.entry.literals.now store.entry.pairs.now)
         store.entry.text.now store.entry.variables a added.old (addition_at store.entry.text.now id at)) result added.new }
@@ -86,7 +87,7 @@ fn addition(
     if numeral::byte(store.text, newline) != b'\n' {
         return Err(Refusal::LineForm);
     }
-    if id != store.count + a + 1 {
+    if id <= records::last(added, a, store.count) {
         return Err(Refusal::LineId);
     }
     if !literals.good {
@@ -94,15 +95,20 @@ fn addition(
     }
     let end = literals.end;
     let empty = end == at;
-    if !empty && added.len() < 2 * a + 2 {
+    if !empty && !records::has_room(added, a) {
         return Err(Refusal::AddedShort);
     }
     outcome?;
     if empty {
         return Ok(None);
     }
-    added[2 * a] = (at + 1) as u32;
-    added[2 * a + 1] = (end - (at + 1)) as u32;
+    records::write(
+        added,
+        a,
+        id as u32,
+        (at + 1) as u32,
+        (end - (at + 1)) as u32,
+    );
     Ok(Some(Step {
         a: a + 1,
         next: newline + 1,
@@ -119,7 +125,7 @@ fn line(
     stamp: Stamp,
 ) -> Result<Option<Step>, Refusal>
     requires values_len { length values.old ≡ store.variables + 1 }
-    requires additions { AddedInText store.text.now a added.old (store.variables + 1) }
+    requires additions { AddedInText store.count store.text.now a added.old (store.variables + 1) }
     requires before_line { BeforeLine stamp.byte values.old }
     ensures step { Leaves (line_step (formula_in store.entry.count store.entry.literals.now store.entry.pairs.now)
         store.entry.text.now store.entry.variables a added.old at) result added.new }
@@ -136,7 +142,7 @@ fn line(
     addition(store, id.value, next, a, added, values, stamp)
 }
 
-// The lines of the text from the first on, over values that are cleared, and the number of pairs that they add.
+// The lines of the text from the first on, over values that are cleared, and the number of records that they add.
 fn follow(
     store: Store,
     added: &mut [u32],
@@ -169,7 +175,7 @@ fn follow(
     Err(Refusal::TextEnds)
 }
 
-// The lines of the text: what they end in, and the number of added pairs. The values are cleared before and after. Not inlined, so
+// The lines of the text: what they end in, and the number of added records. The values are cleared before and after. Not inlined, so
 // that the loops over literals have the registers for themselves: 2 % fewer instructions for a check.
 #[inline(never)]
 pub(crate) fn lines(

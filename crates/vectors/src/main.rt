@@ -55,13 +55,13 @@ fn show_same<W: Write>(out: &mut W, a: Network, b: Network) -> io::Result<()> {
 fn show_part<W: Write>(
     out: &mut W,
     text: &[u8],
-    pairs: &[u32],
+    records: &[u32],
     c: u32,
     a: u32,
     id: u32,
 ) -> io::Result<()> {
     write!(out, "part ")?;
-    out.write_all(added::part(text, pairs, c, a, id))?;
+    out.write_all(added::part(text, records, c, a, id))?;
     writeln!(out, ".")
 }
 
@@ -212,17 +212,24 @@ fn small<W: Write>(out: &mut W) -> io::Result<()> {
     )
 }
 
-// An original clause of a text over six, an added one, one that was deleted, one past a; then a and pairs whose sums are past 32 bits,
-// a pair that ends with the text, and half a pair.
+// An original clause of a text over six, added ones whose ids have a gap, a number in the gap, a clause that was deleted, one past a,
+// an id at C that has a record, and a past the slice. Then two records of one id, of which the first counts, empty or past the text
+// too; then a part that ends with the text, a record whose sum is past 32 bits, and two entries of one.
 fn parts<W: Write>(out: &mut W) -> io::Result<()> {
-    let text = b"7 1 -2 0 5 6 0\n8 -1 0 7 0\n9 3 0 8 0\n";
-    let pairs = [2u32, 4, 17, 2, 29, 0];
-    show_part(out, text, &pairs, 6, 3, 6)?;
-    show_part(out, text, &pairs, 6, 3, 8)?;
-    show_part(out, text, &pairs, 6, 3, 9)?;
-    show_part(out, text, &pairs, 6, 1, 8)?;
-    show_part(out, text, &pairs, 7, 4294967295, 8)?;
-    let outside = [28u32, 8, 4294967295, 4294967295, 36];
+    let text = b"7 1 -2 0 5 6 0\n9 -1 0 7 0\n20 3 0 9 0\n";
+    let records = [7u32, 2, 4, 9, 17, 2, 20, 29, 0];
+    show_part(out, text, &records, 6, 3, 6)?;
+    show_part(out, text, &records, 6, 3, 7)?;
+    show_part(out, text, &records, 6, 3, 8)?;
+    show_part(out, text, &records, 6, 3, 9)?;
+    show_part(out, text, &records, 6, 3, 20)?;
+    show_part(out, text, &records, 6, 1, 9)?;
+    show_part(out, text, &records, 9, 3, 9)?;
+    show_part(out, text, &records, 6, 4294967295, 9)?;
+    show_part(out, text, &[9u32, 17, 2, 9, 2, 4], 6, 2, 9)?;
+    show_part(out, text, &[9u32, 17, 0, 9, 2, 4], 6, 2, 9)?;
+    show_part(out, text, &[9u32, 36, 2, 9, 2, 4], 6, 2, 9)?;
+    let outside = [1u32, 29, 8, 2, 4294967295, 4294967295, 3, 2];
     show_part(out, text, &outside, 0, 3, 1)?;
     show_part(out, text, &outside, 0, 3, 2)?;
     show_part(out, text, &outside, 0, 3, 3)

@@ -3,7 +3,7 @@ use Rattle.std.specs.Prelude.{◌≡◌, refl, List, true, false, ◌⊎◌, ℕ
 use Rattle.std.proofs.Common.{sym, ap, ◌∙◌, inl, inr, ⊎_elim, arith}
 use Rattle.prelude.specs.Tests.{eq?, le?}
 use Rattle.numeral.specs.Number.{Read, byte_at, is_digit, no_word, digits_at, number_at, literal_at}
-use Rattle.numeral.specs.Number.Laws.{byte_past, digit_yes, digit_low, digit_high, digits_stop, number_none, number_zero, number_minus, number_some, number_next, literal_minus, literal_plain}
+use Rattle.numeral.specs.Number.Laws.{byte_past, digit_yes, digit_low, digit_high, digits_stop, number_none, number_zero, number_minus, number_some, number_next, tens, tens_more, tens_nine, tens_first, literal_minus, literal_plain}
 
 -- a number that stands at p ends past p and inside the text; its minus is 0 or 1
 pub record Ends (t : List ℕ) (p : ℕ) (w : Read) : Type 0 where
@@ -37,6 +37,30 @@ digits_ends (suc f) m x t p s h = go (digit? (byte_at t p)) (digits_ends f m (x 
         → (p + 1 ≤ length t → R (digits_at f m (x * 10 + (byte_at t p - 48)) t (p + 1)) (p + 1)) → R (digits_at (suc f) m x t p) p
     go (inl e) k = rw e (omega arith, h, s)
     go (inr w) k = let r = k (omega (arith, byte_in t p (λ e. omega arith))) in rw w.0 (omega (arith, r.0), r.1, r.2)
+
+-- nine digits at most have a value below 10 ^ 9
+digits_small : (f k m x : ℕ) (t : List ℕ) (p : ℕ) → x < tens k → k + f ≤ 9 → (digits_at f m x t p).value < 1000000000
+unfolding digits_at
+digits_small zero k m x t p h l = omega (arith, tens_nine k (omega arith))
+digits_small (suc f) k m x t p h l = go (digit? (byte_at t p)) (digits_small f (k + 1) m (x * 10 + (byte_at t p - 48)) t (p + 1))
+  where
+    go : (is_digit (byte_at t p) ≡ false) ⊎ ((is_digit (byte_at t p) ≡ true) × (48 ≤ byte_at t p) × (byte_at t p ≤ 57))
+        → (x * 10 + (byte_at t p - 48) < tens (k + 1) → k + 1 + f ≤ 9 → (digits_at f m (x * 10 + (byte_at t p - 48)) t (p + 1)).value < 1000000000)
+        → (digits_at (suc f) m x t p).value < 1000000000
+    go (inl e) rest = rw e (omega (arith, tens_nine k (omega arith)))
+    go (inr w) rest = rw w.0 (rest (tens_more k x (byte_at t p - 48) h (omega (arith, w.2))) (omega arith))
+
+pub number_small : (t : List ℕ) (p m : ℕ) → (number_at t p m).value < 1000000000
+number_small t p m = go (digit? (byte_at t p)) (eq? (byte_at t p) 48) (eq? m 1)
+  where
+    go : (is_digit (byte_at t p) ≡ false) ⊎ ((is_digit (byte_at t p) ≡ true) × (48 ≤ byte_at t p) × (byte_at t p ≤ 57))
+        → (byte_at t p ≡ 48) ⊎ (byte_at t p ≡ 48 → ⊥) → (m ≡ 1) ⊎ (m ≡ 1 → ⊥) → (number_at t p m).value < 1000000000
+    go (inl e) b c = rw (number_none t p m e) (omega arith)
+    go (inr w) (inl z) (inl y) = rw (number_minus t p m z y) (omega arith)
+    go (inr w) (inl z) (inr d) = rw (number_zero t p m z d) (omega arith)
+    go (inr w) (inr d) c =
+        rw (number_some t p m d w.1 w.2)
+        (digits_small 8 1 m (byte_at t p - 48) t (p + 1) (tens_first 0 (byte_at t p - 48) (omega (arith, w.2))) (omega arith))
 
 -- no number stands at p, or one that ends inside the text
 pub number_ways : (t : List ℕ) (p m : ℕ) → m ≤ 1 → (number_at t p m ≡ no_word) ⊎ Ends t p (number_at t p m)

@@ -1,16 +1,32 @@
 -- The two passes tell the form and the outcome; the tests come in document 01's order. Assumes nothing.
-use Rattle.std.proofs.Common.{◌≡◌, ◌+◌, ◌*◌, ◌≤◌, length, Bool, true, false, not, refl, sym, ap, ◌∙◌, arith, Some}
+use Rattle.std.proofs.Common.{◌≡◌, ℕ, ℤ, List, ◌+◌, ◌<◌, length, Bool, true, false, not, refl, sym, ap, ◌∙◌, arith, Some}
 use Rattle.std.proofs.lemmas.Result.{err_from_is_err_and}
 use Rattle.refusal.specs.Refusal.{number_of}
 use Rattle.lrat.specs.Bytes.{AfterLiterals, formula_in}
-use Rattle.lrat.specs.State.{AfterHints}
+use Rattle.added.specs.Record.{fits}
+use Rattle.added.proofs.RecordLaws.{fits_room}
+use Rattle.lrat.specs.State.{last_id, AfterHints}
 use Rattle.lrat.specs.Results.{hints_read}
 use Rattle.refusal.specs.Refusal.Laws.{number_some}
 use Rattle.lrat.proofs.StateLaws.{formula_in_length}
 use Rattle.lrat.proofs.CheckLaws.{leaves, add_stops, refused_is, add_literals, add_hints, add_open, add_id, add_bad, add_full, add_none, add_pushed, add_not_one, add_length, add_inside}
 use Rattle.lrat_check.proofs.WordLaws.{formless}
 use Rattle.lrat_check.proofs.lines.addition.Goals as goal
-use Rattle.lrat_check.proofs.lines.addition.Goals.{In_ok-literals, In_ok-hints, else-not-empty-via-then-not-empty+else-added-a, else-not-empty-via-else-not-empty}
+use Rattle.lrat_check.proofs.lines.addition.Goals.{In_ok-literals, In_ok-hints, In_ok-outcome, else-not-empty-via-then-not-empty+else-not-has_room, else-not-empty-via-else-not-empty}
+
+-- the last id over the formula that the store holds
+last_is : (C : ℕ) (lits : List ℤ) (pairs : List ℕ) (a : ℕ) (added : List ℕ) → last_id (length (formula_in C lits pairs)) a added ≡ last_id C a added
+last_is C lits pairs a added = ap (λ (n : ℕ). last_id n a added) (formula_in_length C lits pairs)
+
+above : (C : ℕ) (lits : List ℤ) (pairs : List ℕ) (a : ℕ) (added : List ℕ) (id : ℕ) → last_id C a added < id → last_id (length (formula_in C lits pairs)) a added < id
+above C lits pairs a added id h = omega (arith, h, last_is C lits pairs a added)
+
+-- a clause that is not empty has room
+room : (c : In_ok-outcome) → (c.in_ok-literals.literals.end ≡ c.args.at → ⊥) → true ≡ fits (c.args.a + 1) c.args.added.now
+room c = elim c.else-not-empty.branch [
+  | else-not-empty-via-then-not-empty+else-not-has_room w ↦ (λ d. sym w.if-not-has_room.false ∙ w.has_room.ensures)
+  | else-not-empty-via-else-not-empty w ↦ (λ d. absurd (d w.if-not-empty.false))
+]
 
 good_no : (b : Bool) → not b ≡ true → b ≡ false
 good_no true e = sym e
@@ -51,21 +67,21 @@ returns-then-byte-ne10-clause-step c =
     let h = hints (goal.at.returns-then-byte-ne10-clause-step c).In_ok-hints in
     leaves (add_open _ _ _ _ _ _ _ _ _ _ l.0 l.1 _ _ h.0 h.1 (λ z. c.if-byte-ne10.true (c.byte.ensures ∙ z))) refl
 
-pub returns-then-id-store-clause-step : goal.returns-then-id-store-clause-step
-returns-then-id-store-clause-step c =
+pub returns-then-id-last-clause-step : goal.returns-then-id-last-clause-step
+returns-then-id-last-clause-step c =
     let s = c.args.store in
-    let l = literals (goal.at.returns-then-id-store-clause-step c).In_ok-literals in
-    let h = hints (goal.at.returns-then-id-store-clause-step c).In_ok-hints in
-    let e = formula_in_length s.count s.literals.now s.pairs.now in
-    leaves (add_id _ _ _ _ _ _ _ _ _ _ l.0 l.1 _ _ h.0 h.1 (sym c.byte.ensures ∙ c.if-byte-ne10.false) (λ z. c.if-id-store.true (z ∙ ap (λ n. n + c.args.a + 1) e))) refl
+    let l = literals (goal.at.returns-then-id-last-clause-step c).In_ok-literals in
+    let h = hints (goal.at.returns-then-id-last-clause-step c).In_ok-hints in
+    let e = last_is s.count s.literals.now s.pairs.now c.args.a c.args.added.now in
+    leaves (add_id _ _ _ _ _ _ _ _ _ _ l.0 l.1 _ _ h.0 h.1 (sym c.byte.ensures ∙ c.if-byte-ne10.false) (omega (arith, e, c.last.ensures, c.if-id-last.true))) refl
 
 pub returns-then-not-literals-clause-step : goal.returns-then-not-literals-clause-step
 returns-then-not-literals-clause-step c =
     let s = c.args.store in
     let l = literals (goal.at.returns-then-not-literals-clause-step c).In_ok-literals in
     let h = hints (goal.at.returns-then-not-literals-clause-step c).In_ok-hints in
-    let same = c.if-id-store.false ∙ ap (λ n. n + c.args.a + 1) (sym (formula_in_length s.count s.literals.now s.pairs.now)) in
-    leaves (add_bad _ _ _ _ _ _ _ _ _ _ l.0 l.1 _ _ h.0 h.1 (sym c.byte.ensures ∙ c.if-byte-ne10.false) same (good_no _ c.if-not-literals.true)) refl
+    let higher = above s.count s.literals.now s.pairs.now c.args.a c.args.added.now c.args.id (omega (arith, c.last.ensures, c.if-id-last.false)) in
+    leaves (add_bad _ _ _ _ _ _ _ _ _ _ l.0 l.1 _ _ h.0 h.1 (sym c.byte.ensures ∙ c.if-byte-ne10.false) higher (good_no _ c.if-not-literals.true)) refl
 
 pub returns-in_err-outcome-clause-step : goal.returns-in_err-outcome-clause-step
 returns-in_err-outcome-clause-step c =
@@ -73,83 +89,76 @@ returns-in_err-outcome-clause-step c =
     let l = literals (goal.at.returns-in_err-outcome-clause-step c).In_ok-literals in
     let h = hints (goal.at.returns-in_err-outcome-clause-step c).In_ok-hints in
     let closed = sym c.byte.ensures ∙ c.if-byte-ne10.false in
-    let same = c.if-id-store.false ∙ ap (λ n. n + c.args.a + 1) (sym (formula_in_length s.count s.literals.now s.pairs.now)) in
+    let higher = above s.count s.literals.now s.pairs.now c.args.a c.args.added.now c.args.id (omega (arith, c.last.ensures, c.if-id-last.false)) in
     let code = ap number_of c.in_err-outcome.was in
     let p = err_from_is_err_and c.from_residual-in_err-outcome.result c.from_residual-in_err-outcome.ensures.1 in
     rw (p.1, p.2)
-    (leaves (add_stops _ _ _ _ _ _ _ _ _ _ l.0 l.1 _ _ h.0 h.1 closed same (good_yes _ c.if-not-literals.false) (elim c.else-not-empty.branch [
-      | else-not-empty-via-then-not-empty+else-added-a w ↦ (λ d. omega (arith, w.if-added-a.false))
+    (leaves (add_stops _ _ _ _ _ _ _ _ _ _ l.0 l.1 _ _ h.0 h.1 closed higher (good_yes _ c.if-not-literals.false) (elim c.else-not-empty.branch [
+      | else-not-empty-via-then-not-empty+else-not-has_room w ↦ (λ d. sym w.if-not-has_room.false ∙ w.has_room.ensures)
       | else-not-empty-via-else-not-empty w ↦ (λ d. absurd (d w.if-not-empty.false))
     ]) (λ z. number_some _ (sym code ∙ z)))
-    (refused_is _ _ _ _ c.args.added.now code (add_not_one _ _ _ _ _ _ _ _ _ _ l.0 l.1 _ _ h.0 h.1 closed same (good_yes _ c.if-not-literals.false))))
+    (refused_is _ _ _ _ c.args.added.now code (add_not_one _ _ _ _ _ _ _ _ _ _ l.0 l.1 _ _ h.0 h.1 closed higher (good_yes _ c.if-not-literals.false))))
 
 pub returns-then-empty-clause-step : goal.returns-then-empty-clause-step
 returns-then-empty-clause-step c =
     let s = c.args.store in
     let l = literals (goal.at.returns-then-empty-clause-step c).In_ok-literals in
     let h = hints (goal.at.returns-then-empty-clause-step c).In_ok-hints in
-    let same = c.if-id-store.false ∙ ap (λ n. n + c.args.a + 1) (sym (formula_in_length s.count s.literals.now s.pairs.now)) in
-    leaves (add_none _ _ _ _ _ _ _ _ _ _ l.0 l.1 _ _ h.0 h.1 (sym c.byte.ensures ∙ c.if-byte-ne10.false) same (good_yes _ c.if-not-literals.false) c.if-empty.true (ap number_of c.in_ok-outcome.was)) refl
+    let higher = above s.count s.literals.now s.pairs.now c.args.a c.args.added.now c.args.id (omega (arith, c.last.ensures, c.if-id-last.false)) in
+    leaves (add_none _ _ _ _ _ _ _ _ _ _ l.0 l.1 _ _ h.0 h.1 (sym c.byte.ensures ∙ c.if-byte-ne10.false) higher (good_yes _ c.if-not-literals.false) c.if-empty.true (ap number_of c.in_ok-outcome.was)) refl
 
-pub returns-then-added-a-clause-step : goal.returns-then-added-a-clause-step
-returns-then-added-a-clause-step c =
+pub returns-then-not-has_room-clause-step : goal.returns-then-not-has_room-clause-step
+returns-then-not-has_room-clause-step c =
     let s = c.args.store in
-    let l = literals (goal.at.returns-then-added-a-clause-step c).In_ok-literals in
-    let h = hints (goal.at.returns-then-added-a-clause-step c).In_ok-hints in
-    let same = c.if-id-store.false ∙ ap (λ n. n + c.args.a + 1) (sym (formula_in_length s.count s.literals.now s.pairs.now)) in
-    leaves (add_full _ _ _ _ _ _ _ _ _ _ l.0 l.1 _ _ h.0 h.1 (sym c.byte.ensures ∙ c.if-byte-ne10.false) same (good_yes _ c.if-not-literals.false) c.if-not-empty.true c.if-added-a.true) refl
+    let l = literals (goal.at.returns-then-not-has_room-clause-step c).In_ok-literals in
+    let h = hints (goal.at.returns-then-not-has_room-clause-step c).In_ok-hints in
+    let higher = above s.count s.literals.now s.pairs.now c.args.a c.args.added.now c.args.id (omega (arith, c.last.ensures, c.if-id-last.false)) in
+    leaves (add_full _ _ _ _ _ _ _ _ _ _ l.0 l.1 _ _ h.0 h.1 (sym c.byte.ensures ∙ c.if-byte-ne10.false) higher (good_yes _ c.if-not-literals.false) c.if-not-empty.true (sym c.if-not-has_room.true ∙ c.has_room.ensures)) refl
 
-pub overflow_add-added : goal.overflow_add-added
-overflow_add-added c =
-    let l = literals (goal.at.overflow_add-added c).In_ok-literals in
-    let s = c.args.store in
-    let i = add_inside (formula_in s.count s.literals.now s.pairs.now) _ _ c.args.a c.args.added.now c.args.id _ _ _ _ l.0 l.1 in
-    omega (arith, i.0, i.1, i.2, s.text_fits)
-
-pub overflow_cast-added : goal.overflow_cast-added
-overflow_cast-added c =
-    let l = literals (goal.at.overflow_cast-added c).In_ok-literals in
+pub overflow_add-at : goal.overflow_add-at
+overflow_add-at c =
+    let l = literals (goal.at.overflow_add-at c).In_ok-literals in
     let s = c.args.store in
     let i = add_inside (formula_in s.count s.literals.now s.pairs.now) _ _ c.args.a c.args.added.now c.args.id _ _ _ _ l.0 l.1 in
     omega (arith, i.0, i.1, i.2, s.text_fits)
 
-pub overflow_add-added-2 : goal.overflow_add-added-2
-overflow_add-added-2 c =
-    let l = literals (goal.at.overflow_add-added-2 c).In_ok-literals in
+pub overflow_cast-at : goal.overflow_cast-at
+overflow_cast-at c =
+    let l = literals (goal.at.overflow_cast-at c).In_ok-literals in
     let s = c.args.store in
     let i = add_inside (formula_in s.count s.literals.now s.pairs.now) _ _ c.args.a c.args.added.now c.args.id _ _ _ _ l.0 l.1 in
     omega (arith, i.0, i.1, i.2, s.text_fits)
 
-pub overflow_sub-added : goal.overflow_sub-added
-overflow_sub-added c =
-    let room : (c.in_ok-literals.literals.end ≡ c.args.at → ⊥) → 2 * c.args.a + 2 ≤ length c.args.added.now =
-    elim c.else-not-empty.branch [
-      | else-not-empty-via-then-not-empty+else-added-a w ↦ (λ d. omega (arith, w.if-added-a.false))
-      | else-not-empty-via-else-not-empty w ↦ (λ d. absurd (d w.if-not-empty.false))
-    ] in
+pub overflow_add-at-2 : goal.overflow_add-at-2
+overflow_add-at-2 c =
+    let l = literals (goal.at.overflow_add-at-2 c).In_ok-literals in
     let s = c.args.store in
-    let l = literals (goal.at.overflow_sub-added c).In_ok-literals in
-    let h = hints (goal.at.overflow_sub-added c).In_ok-hints in
-    let same = c.if-id-store.false ∙ ap (λ n. n + c.args.a + 1) (sym (formula_in_length s.count s.literals.now s.pairs.now)) in
-    let i = add_length (formula_in s.count s.literals.now s.pairs.now) _ _ c.args.a c.args.added.now c.args.id _ _ _ _ l.0 l.1 _ _ h.0 h.1 (sym c.byte.ensures ∙ c.if-byte-ne10.false) same (good_yes _ c.if-not-literals.false) c.if-empty.false (room c.if-empty.false) in
+    let i = add_inside (formula_in s.count s.literals.now s.pairs.now) _ _ c.args.a c.args.added.now c.args.id _ _ _ _ l.0 l.1 in
+    omega (arith, i.0, i.1, i.2, s.text_fits)
+
+pub overflow_sub-end : goal.overflow_sub-end
+overflow_sub-end c =
+    let s = c.args.store in
+    let l = literals (goal.at.overflow_sub-end c).In_ok-literals in
+    let h = hints (goal.at.overflow_sub-end c).In_ok-hints in
+    let higher = above s.count s.literals.now s.pairs.now c.args.a c.args.added.now c.args.id (omega (arith, c.last.ensures, c.if-id-last.false)) in
+    let i = add_length (formula_in s.count s.literals.now s.pairs.now) _ _ c.args.a c.args.added.now c.args.id _ _ _ _ l.0 l.1 _ _ h.0 h.1 (sym c.byte.ensures ∙ c.if-byte-ne10.false) higher (good_yes _ c.if-not-literals.false) c.if-empty.false (room (goal.at.overflow_sub-end c).In_ok-outcome c.if-empty.false) in
     omega (arith, i)
 
-pub overflow_cast-added-2 : goal.overflow_cast-added-2
-overflow_cast-added-2 c =
-    let l = literals (goal.at.overflow_cast-added-2 c).In_ok-literals in
+pub overflow_cast-end : goal.overflow_cast-end
+overflow_cast-end c =
+    let l = literals (goal.at.overflow_cast-end c).In_ok-literals in
     let s = c.args.store in
     let i = add_inside (formula_in s.count s.literals.now s.pairs.now) _ _ c.args.a c.args.added.now c.args.id _ _ _ _ l.0 l.1 in
     omega (arith, i.0, i.1, i.2, s.text_fits)
+
+pub write-requires : goal.write-requires
+write-requires c = fits_room _ _ (room (goal.at.write-requires c).In_ok-outcome c.if-empty.false)
 
 pub returns-clause-step : goal.returns-clause-step
 returns-clause-step c =
-    let room : (c.in_ok-literals.literals.end ≡ c.args.at → ⊥) → 2 * c.args.a + 2 ≤ length c.args.added.now =
-    elim c.else-not-empty.branch [
-      | else-not-empty-via-then-not-empty+else-added-a w ↦ (λ d. omega (arith, w.if-added-a.false))
-      | else-not-empty-via-else-not-empty w ↦ (λ d. absurd (d w.if-not-empty.false))
-    ] in
     let s = c.args.store in
     let l = literals (goal.at.returns-clause-step c).In_ok-literals in
     let h = hints (goal.at.returns-clause-step c).In_ok-hints in
-    let same = c.if-id-store.false ∙ ap (λ n. n + c.args.a + 1) (sym (formula_in_length s.count s.literals.now s.pairs.now)) in
-    leaves (add_pushed _ _ _ _ _ _ _ _ _ _ l.0 l.1 _ _ h.0 h.1 (sym c.byte.ensures ∙ c.if-byte-ne10.false) same (good_yes _ c.if-not-literals.false) c.if-empty.false (room c.if-empty.false) (ap number_of c.in_ok-outcome.was)) refl
+    let higher = above s.count s.literals.now s.pairs.now c.args.a c.args.added.now c.args.id (omega (arith, c.last.ensures, c.if-id-last.false)) in
+    rw c.write.ensures (leaves (add_pushed _ _ _ _ _ _ _ _ _ _ l.0 l.1 _ _ h.0 h.1 (sym c.byte.ensures ∙ c.if-byte-ne10.false) higher (good_yes _ c.if-not-literals.false) c.if-empty.false (room (goal.at.returns-clause-step c).In_ok-outcome c.if-empty.false) (ap number_of c.in_ok-outcome.was)) refl)

@@ -1,8 +1,10 @@
 -- The invariant: Going, all lines end as those that are left do; and every byte is below the stamp. Assumes nothing.
-use Rattle.std.proofs.Common.{refl, sym, ◌∙◌, subst, arith}
+use Rattle.std.proofs.Common.{ℕ, ◌+◌, refl, sym, ◌∙◌, subst, arith}
 use Rattle.std.proofs.lemmas.Result.{err_from_is_err_and}
 use Rattle.lrat.specs.Bytes.{BeforeLine, zeros}
 use Rattle.lrat.specs.Bytes.Laws.{during_before, zeros_before}
+use Rattle.lrat.specs.State.{AddedInText}
+use Rattle.lrat.proofs.StateLaws.{formula_in_length}
 use Rattle.lrat.proofs.CheckLaws.{going_start, lines_none, lines_refused, lines_on, lines_over}
 use Rattle.lrat_check.proofs.lines.follow.Goals as goal
 
@@ -49,3 +51,8 @@ loop-at-preserved c =
 
 pub returns : goal.returns
 returns c = lines_over c.loop-at.invariant.0 c.loop-at-test.false
+
+pub line-requires-clause-additions : goal.line-requires-clause-additions
+line-requires-clause-additions c =
+    let s = c.args.store in
+    subst (λ (n : ℕ). AddedInText n s.text.now c.loop-at.count c.loop-at.added (s.variables + 1)) (formula_in_length s.count s.literals.now s.pairs.now) c.loop-at.invariant.0.additions

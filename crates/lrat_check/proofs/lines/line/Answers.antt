@@ -1,6 +1,8 @@
 -- By what follows the id. Assumes nothing.
-use Rattle.std.proofs.Common.{false, refl, sym, ◌∙◌, subst}
+use Rattle.std.proofs.Common.{false, refl, sym, ap, ◌∙◌, subst, arith}
 use Rattle.std.proofs.lemmas.Result.{err_from_is_err_and}
+use Rattle.numeral.specs.Number.{Read}
+use Rattle.numeral.specs.Number.Places.{number_small}
 use Rattle.numeral.specs.Number.Words.{none_read, number_word}
 use Rattle.lrat.specs.Check.{Left}
 use Rattle.lrat.specs.Results.{Leaves}
@@ -32,3 +34,8 @@ returns-clause-step c =
     subst (λ (l : Left). Leaves l c.addition.result c.addition.new.added)
     (step_addition _ _ _ _ _ _ _ (sym w.read) w.there (sym c.byte.ensures ∙ c.if-byte-ne32.false) (λ z. c.if-byte-eq100.false (c.byte-2.ensures ∙ z)))
     c.addition.ensures.step
+
+pub addition-requires-clause-id_small : goal.addition-requires-clause-id_small
+addition-requires-clause-id_small c =
+    let w = number_word _ _ false _ (sym c.in_ok-id.ensures.ok_part ∙ c.number.ensures) in
+    omega (arith, number_small c.args.store.text.now c.args.at 0, ap (λ (r : Read). r.value) w.read)

@@ -1,66 +1,49 @@
 -- Where the clause lies: the store's part or the text's. Assumes nothing.
-use Rattle.std.proofs.Common.{refl, ◌-◌, sym, ap, ◌∙◌, subst, arith}
+use Rattle.std.proofs.Common.{◌-◌, sym, ap, ◌∙◌, subst, arith}
+use Rattle.added.proofs.RecordLaws.{with_less}
 use Rattle.lrat.specs.Bytes.{found_in}
 use Rattle.lrat.specs.State.{Spelled}
-use Rattle.lrat.proofs.StateLaws.{stands_named, stands_inside, stands_long, clause_below, added_is}
+use Rattle.lrat.proofs.StateLaws.{stands_original, stands_added, clause_below, clause_added}
 use Rattle.lrat_check.proofs.ClauseLaws.{original_part, original_below}
 use Rattle.lrat_check.proofs.clause.Clauses.evaluate.Goals as goal
-
-pub overflow_sub-k : goal.overflow_sub-k
-overflow_sub-k c = stands_named _ _ _ _ c.requires.standing
-
-pub bounds-self-k : goal.bounds-self-k
-bounds-self-k c =
-    omega (arith, stands_named _ _ _ _ c.requires.standing, c.args.self.store.originals.long)
-
-pub bounds-self-k-then-x-self : goal.bounds-self-k-then-x-self
-bounds-self-k-then-x-self c =
-    omega (arith, stands_named _ _ _ _ c.requires.standing, c.args.self.store.originals.long)
-
-pub slice_bounds-evaluate_original-end : goal.slice_bounds-evaluate_original-end
-slice_bounds-evaluate_original-end c =
-    omega (arith, c.args.self.store.originals.inside (c.args.x - 1) (omega (arith, stands_named _ _ _ _ c.requires.standing, c.if-x-self.true)))
 
 pub evaluate_original-requires : goal.evaluate_original-requires
 evaluate_original-requires c =
     let s = c.args.self in
-    let named = stands_named _ _ _ _ c.requires.standing in
-    let inside = s.store.originals.inside (c.args.x - 1) (omega (arith, named, c.if-x-self.true)) in
+    let inside = s.store.originals.inside (c.args.x - 1) (omega (arith, c.requires.named, c.if-x-self.true)) in
     record {
-      below = original_below s.store.count s.store.literals.now s.store.pairs.now s.store.text.now s.added.now c.args.x named c.if-x-self.true inside _ _ c.requires.long
-          (clause_below _ _ _ _ _ _ _ _ s.store.originals s.additions c.requires.standing);
+      below = original_below s.store.count s.store.literals.now s.store.pairs.now s.store.text.now s.a s.added.now c.args.x c.requires.named c.if-x-self.true inside _ _ c.requires.long
+          (clause_below _ _ _ _ _ _ _ _ s.store.originals s.additions (stands_original _ _ _ _ c.requires.named c.if-x-self.true));
     }
 
 pub returns-then-x-self : goal.returns-then-x-self
 returns-then-x-self c =
     let s = c.args.self in
-    let named = stands_named _ _ _ _ c.requires.standing in
-    let inside = s.store.originals.inside (c.args.x - 1) (omega (arith, named, c.if-x-self.true)) in
-    c.evaluate_original.ensures
-    ∙ ap (found_in c.args.values.stamp.byte c.args.values.bytes.now)
-    (original_part s.store.count s.store.literals.now s.store.pairs.now s.store.text.now s.added.now c.args.x named c.if-x-self.true inside)
+    let inside = s.store.originals.inside (c.args.x - 1) (omega (arith, c.requires.named, c.if-x-self.true)) in (
+      stands_original _ _ _ _ c.requires.named c.if-x-self.true,
+      c.evaluate_original.ensures
+          ∙ ap (found_in c.args.values.stamp.byte c.args.values.bytes.now)
+          (original_part s.store.count s.store.literals.now s.store.pairs.now s.store.text.now s.a s.added.now c.args.x c.requires.named c.if-x-self.true inside),
+    )
 
-pub overflow_mul-k-2 : goal.overflow_mul-k-2
-overflow_mul-k-2 c =
-    omega (arith, stands_inside _ _ _ _ c.requires.standing c.if-x-self.false, c.args.self.additions.long, c.well_formed)
+pub returns-in_err-k : goal.returns-in_err-k
+returns-in_err-k c = rw c.from_residual.ensures c.in_err-k.ensures
 
-pub offset_bounds-self-k-2 : goal.offset_bounds-self-k-2
-offset_bounds-self-k-2 c =
-    omega (arith, stands_inside _ _ _ _ c.requires.standing c.if-x-self.false, c.args.self.additions.long, c.well_formed)
-
-pub bounds-self-k-2 : goal.bounds-self-k-2
-bounds-self-k-2 c =
-    omega (arith, stands_inside _ _ _ _ c.requires.standing c.if-x-self.false, c.args.self.additions.long)
+pub offset-requires : goal.offset-requires
+offset-requires c = omega (arith, with_less _ _ _ _ c.in_ok-k.ensures.found, c.args.self.additions.room)
 
 pub evaluate_added-requires : goal.evaluate_added-requires
 evaluate_added-requires c =
     let s = c.args.self in
-    let inside = stands_inside _ _ _ _ c.requires.standing c.if-x-self.false in
-    let long = stands_long _ _ _ _ c.requires.standing c.if-x-self.false in
-    subst (Spelled s.store.text.now _) (sym c.requires.long) (s.additions.placed _ inside long)
+    let k = c.in_ok-k.ensures in
+    rw c.offset.ensures (subst (Spelled s.store.text.now _) (sym c.requires.long) (s.additions.placed _ (with_less _ _ _ _ k.found) k.long))
 
 pub returns : goal.returns
 returns c =
-    c.evaluate_added.ensures
-    ∙ ap (found_in c.args.values.stamp.byte c.args.values.bytes.now)
-    (added_is c.args.self.store.count c.args.self.store.literals.now c.args.self.store.pairs.now c.args.self.store.text.now c.args.self.added.now c.args.x _ c.if-x-self.false refl)
+    let s = c.args.self in
+    let k = c.in_ok-k.ensures in (
+      stands_added _ _ _ _ c.if-x-self.false _ k.found k.long,
+      c.evaluate_added.ensures
+          ∙ ap (found_in c.args.values.stamp.byte c.args.values.bytes.now)
+          (rw c.offset.ensures (clause_added s.store.count s.store.literals.now s.store.pairs.now s.store.text.now s.a s.added.now c.args.x _ c.if-x-self.false k.found)),
+    )
