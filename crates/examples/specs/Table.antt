@@ -21,6 +21,7 @@ use Rattle.answer.specs.Values.{refused_by, kept_by, named_from, complete, assig
 use Rattle.answer.specs.Decode.{lowest, literal_for, label_for, decoded}
 use Rattle.answer.specs.Reading.{passed, valued, line_step, lines_from, ended, reading_of}
 use Rattle.lrat.specs.Words.{words_from, words_at, literals_at, ids_at, run_from, run_at, deletion_at, hints_after, addition_at, line_after, line_at}
+use Rattle.added.specs.Record.{fits, id_of, offset_of, length_of, recorded, emptied, first_from, first_with}
 use Rattle.lrat.specs.State.{stands_in, clause_at, hints_of, without, delete_all}
 use Rattle.lrat.specs.Check.{concluded, add_step, delete_step, step_of, line_step as check_step, lines_from as check_from, lines_of}
 use Rattle.formula_clauses.specs.Store.{room_refusal}
@@ -122,6 +123,10 @@ no_refutation =
     -- 7 0 5 6 1 2 4 0
     55 ∷ 32 ∷ 48 ∷ 32 ∷ 53 ∷ 32 ∷ 54 ∷ 32 ∷ 49 ∷ 32 ∷ 50 ∷ 32 ∷ 52 ∷ 32 ∷ 48 ∷ 10 ∷ []
 
+-- the same of the line "20 -1 0 1 2 4 0", which is accepted, and of others after it
+gapped : List ℕ → List ℕ
+gapped t = refuted (50 ∷ 48 ∷ 32 ∷ 45 ∷ 49 ∷ 32 ∷ 48 ∷ 32 ∷ 49 ∷ 32 ∷ 50 ∷ 32 ∷ 52 ∷ 32 ∷ 48 ∷ 10 ∷ t)
+
 -- the report for "1 01 1 1", its answer and that refutation
 one_report : List ℕ
 one_report = report_text (49 ∷ 32 ∷ 48 ∷ 49 ∷ 32 ∷ 49 ∷ 32 ∷ 49 ∷ 10 ∷ []) one_answer no_refutation slices
@@ -162,6 +167,16 @@ rows =
     ∷ record { computed = refuted (56 ∷ 32 ∷ 48 ∷ 32 ∷ 53 ∷ 32 ∷ 54 ∷ 32 ∷ 49 ∷ 32 ∷ 50 ∷ 32 ∷ 52 ∷ 32 ∷ 48 ∷ 10 ∷ []); stated = 0 ∷ 0 ∷ [] }
     -- "6 0 5 6 1 2 4 0": an id at C is 17
     ∷ record { computed = refuted (54 ∷ 32 ∷ 48 ∷ 32 ∷ 53 ∷ 32 ∷ 54 ∷ 32 ∷ 49 ∷ 32 ∷ 50 ∷ 32 ∷ 52 ∷ 32 ∷ 48 ∷ 10 ∷ []); stated = 17 ∷ 0 ∷ [] }
+    -- ids with gaps, "21 0 5 6 20 0" after a line with the id 20: none, with one added clause
+    ∷ record { computed = gapped (50 ∷ 49 ∷ 32 ∷ 48 ∷ 32 ∷ 53 ∷ 32 ∷ 54 ∷ 32 ∷ 50 ∷ 48 ∷ 32 ∷ 48 ∷ 10 ∷ []); stated = 0 ∷ 1 ∷ [] }
+    -- "21 0 5 6 19 0": a number that was left out does not stand, 19
+    ∷ record { computed = gapped (50 ∷ 49 ∷ 32 ∷ 48 ∷ 32 ∷ 53 ∷ 32 ∷ 54 ∷ 32 ∷ 49 ∷ 57 ∷ 32 ∷ 48 ∷ 10 ∷ []); stated = 19 ∷ 1 ∷ [] }
+    -- "20 0 5 6 20 0": the id comes again, 17
+    ∷ record { computed = gapped (50 ∷ 48 ∷ 32 ∷ 48 ∷ 32 ∷ 53 ∷ 32 ∷ 54 ∷ 32 ∷ 50 ∷ 48 ∷ 32 ∷ 48 ∷ 10 ∷ []); stated = 17 ∷ 1 ∷ [] }
+    -- "21 d 20 0", "22 0 5 6 20 0": a deleted clause does not stand, 19
+    ∷ record { computed = gapped (50 ∷ 49 ∷ 32 ∷ 100 ∷ 32 ∷ 50 ∷ 48 ∷ 32 ∷ 48 ∷ 10 ∷ 50 ∷ 50 ∷ 32 ∷ 48 ∷ 32 ∷ 53 ∷ 32 ∷ 54 ∷ 32 ∷ 50 ∷ 48 ∷ 32 ∷ 48 ∷ 10 ∷ []); stated = 19 ∷ 1 ∷ [] }
+    -- "21 4 0 5 0": four entries are no room for a second record, 22
+    ∷ record { computed = gapped (50 ∷ 49 ∷ 32 ∷ 52 ∷ 32 ∷ 48 ∷ 32 ∷ 53 ∷ 32 ∷ 48 ∷ 10 ∷ []); stated = 22 ∷ 1 ∷ [] }
     -- P8: labels 0 0 2 2
     ∷ record { computed = answered one_switch one_answer; stated = 0 ∷ 0 ∷ 0 ∷ 2 ∷ 2 ∷ [] }
     -- and, with P4's refutation, the report "least 1", "0 0 0 2", "sink 2"
@@ -228,8 +243,9 @@ rows =
 
 -- each row's computed numbers are those stated
 pub holds : map (λ (x : Row). x.computed) rows ≡ map (λ (x : Row). x.stated) rows
-unfolding rows no_switch slices refuted no_refutation one_report one_settled none_report verdict_below settlement number_text switch_text shown_switches sink_text network_text refused_text fails_text works_text least_text report_text
+unfolding rows no_switch slices refuted gapped no_refutation one_report one_settled none_report verdict_below settlement number_text switch_text shown_switches sink_text network_text refused_text fails_text works_text least_text report_text
     words_from words_at literals_at ids_at run_from run_at deletion_at hints_after addition_at line_after line_at stands_in clause_at hints_of without delete_all
+    fits id_of offset_of length_of recorded emptied first_from first_with
     concluded add_step delete_step step_of check_step check_from lines_of room_refusal refusal_before outcome_of lines_for check_answer clause_count literal_count clauses_before literals_before
     on_row_count on_row_literals pairs_before triples_before
     equal_lists one_switch one_answer answered digits_at number_at word_at line_end stands_at form_from form_at refused_by kept_by named_from complete assigned holding
