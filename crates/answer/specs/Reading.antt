@@ -96,6 +96,11 @@ reading_of q t =
 abbrev pub result_of : Decoded → Result Network Refusal
 result_of d = unless d.refusal d.network
 
+-- and its network: "the network with r = 0 and every entry 0" where it is refused
+abbrev pub read_network : Result Network Refusal → Network
+read_network (Ok w) = w
+read_network (Err e) = zeros
+
 -- the number of a phase
 abbrev pub phase_number : Phase → ℕ
 phase_number Before = 0

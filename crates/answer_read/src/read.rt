@@ -1,8 +1,9 @@
 // Reading an answer, line by line from the top.
 ghost use Rattle.std.specs.Prelude.{◌≡◌, ◌≤◌, ◌<◌, length, replicate, IfOk};
+ghost use Rattle.refusal.specs.Refusal.{number_of};
 ghost use Rattle.formula.specs.Count.{values_most};
 ghost use Rattle.answer.specs.Values.{kept};
-ghost use Rattle.answer.specs.Reading.{LineBy, LinesBy, phase_number, gave, line_step, lines_from, ended, reading_of, result_of};
+ghost use Rattle.answer.specs.Reading.{LineBy, LinesBy, phase_number, gave, line_step, lines_from, ended, reading_of, result_of, read_network};
 
 use crate::values::Named;
 use crate::{decode, lines, values};
@@ -80,7 +81,9 @@ fn judge(good: GoodRequest, keep: usize, progress: Progress) -> Result<Network, 
 }
 
 pub fn read_answer(q: Request, text: &[u8]) -> Result<Network, Refusal>
-    ensures { result ≡ result_of (reading_of q text.now) }
+    ensures reading { result ≡ result_of (reading_of q text.now) }
+    ensures number { number_of result ≡ (reading_of q text.now).refusal }
+    ensures network { read_network result ≡ (reading_of q text.now).network }
 {
     let size = formula_clauses::count::count(q)?;
     let good = q.test()?;

@@ -1,21 +1,22 @@
 -- Laws of the file: the head and the lines as their parts one after the other, how long they are, and the answers. Assumes nothing.
-use Rattle.std.specs.Prelude.{◌≡◌, refl, false, cond, Result, Ok, Err, ℕ, zero, suc, ◌+◌, ◌≤◌, ◌<◌, eqb, ltb, take}
+use Rattle.std.specs.Prelude.{◌≡◌, refl, false, cond, Result, Ok, Err, ℕ, zero, suc, ◌+◌, ◌≤◌, ◌<◌, eqb, leb, ltb, take}
 use Rattle.std.proofs.Math.Path.{sym, ap}
 use Rattle.std.proofs.Common.{ap₂, ◌∙◌, add-one, length-append, length-set, take-suc, set}
 use mathlib.Core.List.{List, [], ◌∷◌, ◌++◌, append_assoc, append-nil}
 use native.Mathlib.Omega.{arith}
 use Rattle.std.proofs.Math.ListN.{length, get_or}
-use borrow.Author.Tests.{lt-ltb, le-ltb, eq-eqb, ne_eqb}
+use borrow.Author.Tests.{lt-ltb, le-ltb, le-leb, lt-leb, eq-eqb, ne_eqb}
 use Rattle.std.proofs.Math.Logic.{⊎_elim}
-use Rattle.prelude.specs.Tests.{eq?}
+use Rattle.prelude.specs.Tests.{eq?, le?}
 use Rattle.prelude.specs.Written.{written}
+use Rattle.std.proofs.lemmas.List.{get_or_past}
 use Rattle.std.proofs.lemmas.List.Edits.{sets, sets-eq}
 use Rattle.std.proofs.Math.Seq.{length-sets}
 use Rattle.prelude.specs.Written.Laws.{Wrote, wrote_one, wrote_next}
 use Rattle.cnf.specs.Cnf.{Clause, Formula}
 use Rattle.refusal.specs.declared.Refusal.{Refusal}
-use Rattle.refusal.specs.declared.Refusal.TheVariants.{BufferShort}
-use Rattle.refusal.specs.Refusal.{number, numbered, unless, number_of as number_in}
+use Rattle.refusal.specs.declared.Refusal.TheVariants.{RequestLine, BufferShort}
+use Rattle.refusal.specs.Refusal.{number, refusals, numbered, unless, number_of as number_in}
 use Rattle.refusal.specs.Refusal.Laws.{numbered_number, unless-number, unless-ok, unless-number_of, number_some}
 use Rattle.request.specs.Numbers.{Good, refusal_of}
 use Rattle.request.proofs.NumbersLaws.{refusal_good, good_refusal}
@@ -34,6 +35,7 @@ use Rattle.dimacs.specs.declared.lines.Cursor.{Cursor}
 use Rattle.dimacs.specs.Cursor.{Room, Puts}
 use Rattle.dimacs.proofs.CursorLaws.{room_before, room_after, puts_both}
 use Rattle.dimacs.specs.File.{Answer, number_of, values_of, head_text, body_text, file_text, answer_by, Counted, size_values, size_answer, write_number, write_values, write_answer, file_written}
+use Rattle.dimacs.specs.File.Answering.{refused as refused_with, answering_number, answering_by, in_numbers}
 
 -- the length of the first line
 pub head_length : (v c : ℕ) → length (head_text v c) ≡ length (decimal v) + length (decimal c) + 8
@@ -250,10 +252,32 @@ module _ (q : Request) (e : Refusal) (is : number e ≡ refusal_of q) where
   unfolding file_written write_number
   file_refused l = rw (fails, fails)
 
--- the number of an answer is the one that it is made by
-pub number_is : (k size : ℕ) → k ≤ 24 → number_of (answer_by k size) ≡ k
-number_is zero size h = refl
-number_is (suc k) size h = unless-number_of (suc k) size h
+-- the number of an answer, for every number that it is made by: this one up to 24, which is the last that a refusal has, and 1 above it
+pub number_is : (k size : ℕ) → number_of (answer_by k size) ≡ cond (leb k 24) k 1
+number_is zero size = refl
+number_is (suc k) size =
+    ⊎_elim (λ (h : suc k ≤ 24). rw (le-leb (suc k) 24 h) (unless-number_of (suc k) size h))
+    (λ (h : 24 < suc k). rw (lt-leb (suc k) 24 h) (ap number (get_or_past refusals k RequestLine (let m : length refusals ≤ k = omega arith in m))))
+    (le? (suc k) 24)
+
+-- so up to the last refusal's it is the one that it is made by
+pub number_within : (k size : ℕ) → k ≤ 24 → number_of (answer_by k size) ≡ k
+number_within zero size h = refl
+number_within (suc k) size h = unless-number_of (suc k) size h
+
+-- in numbers it is so of every number
+pub answering_is : (k size : ℕ) → answering_number (answering_by k size) ≡ k
+answering_is k size = ⊎_elim (λ (z : k ≡ 0). rw z) (λ (d : k ≡ 0 → ⊥). rw (ne_eqb k 0 d)) (eq? k 0)
+
+-- an answer has the number of what it is in numbers
+pub answering_same : (x : Answer) → answering_number (in_numbers x) ≡ number_of x
+answering_same (Ok k) = refl
+answering_same (Err e) = refl
+
+-- and in numbers it is by the number that it is made by, up to the last refusal's
+pub answered : (k size : ℕ) → k ≤ 24 → in_numbers (answer_by k size) ≡ answering_by k size
+answered zero size h = refl
+answered (suc k) size h = rw (ne_eqb (suc k) 0 (λ e. omega arith)) (ap refused_with (unless-number_of (suc k) size h))
 
 -- its values are the length, where that number is 0
 pub values_is : (k size : ℕ) → values_of (answer_by k size) ≡ cond (eqb k 0) (size ∷ []) []
@@ -276,7 +300,12 @@ module _ (q : Request) where
   -- number and values of the size's answer
   pub size_number : number_of (size_answer q) ≡ refusal_of q
   unfolding size_answer
-  size_number = number_is (refusal_of q) (length (file_text q)) (refusal_most q)
+  size_number = number_within (refusal_of q) (length (file_text q)) (refusal_most q)
+
+  -- in numbers it is by the refusal of the request, or the length
+  pub size_answering : in_numbers (size_answer q) ≡ answering_by (refusal_of q) (length (file_text q))
+  unfolding size_answer
+  size_answering = answered (refusal_of q) (length (file_text q)) (refusal_most q)
 
   pub size_values_lem : values_of (size_answer q) ≡ size_values q
   unfolding size_answer size_values
@@ -285,7 +314,11 @@ module _ (q : Request) where
   -- and of the writer's
   pub write_number_lem : (room : ℕ) → number_of (write_answer q room) ≡ write_number q room
   unfolding write_answer
-  write_number_lem room = number_is (write_number q room) (length (file_text q)) (write_most q room)
+  write_number_lem room = number_within (write_number q room) (length (file_text q)) (write_most q room)
+
+  pub write_answering : (room : ℕ) → in_numbers (write_answer q room) ≡ answering_by (write_number q room) (length (file_text q))
+  unfolding write_answer
+  write_answering room = answered (write_number q room) (length (file_text q)) (write_most q room)
 
   pub write_values_lem : (room : ℕ) → values_of (write_answer q room) ≡ write_values q room
   unfolding write_answer write_values

@@ -11,6 +11,7 @@ use Rattle.formula.specs.Count.{variable_count, clause_count}
 use Rattle.formula.specs.declared.Sizes.{Sizes}
 use Rattle.text.specs.Decimal.{decimal}
 use Rattle.text.specs.Text.{line_text}
+pub mod Answering
 
 -- the length of the file in bytes, or the refusal
 abbrev pub Answer : Type 0

@@ -1,6 +1,6 @@
 -- The counts are what the clauses have: a measure of clauses that adds up over rows is so much for each on row and so much for
 -- each off row. Assumes nothing.
-use Rattle.std.specs.Prelude.{◌≡◌, Ok}
+use Rattle.std.specs.Prelude.{◌≡◌, Result, Ok, Err, IfOk}
 use Rattle.std.proofs.Math.Path.{refl, ap, ap₂}
 use Rattle.std.proofs.Common.{sym, ◌∙◌, zero-mul, add-mul, mul-le-mul_left, mul-le-mul_right, arith}
 use mathlib.Core.List.{List, [], ◌∷◌, ◌++◌}
@@ -25,8 +25,10 @@ use Rattle.formula.proofs.FormulaOnRow.{on_row_length, on_row_literals_lem}
 use Rattle.formula.proofs.FormulaOffRow.{off_row_length, off_row_literals_lem}
 use Rattle.formula.proofs.FormulaRows.{variables_in, rows_append, variables_append}
 use Rattle.formula.specs.Count.{on_row_count, on_row_literals, off_row_count, off_row_literals, network_count, network_literals, split, clauses_before, literals_before, clause_count, literal_count, counts_of, sizes_of}
+use Rattle.formula.specs.declared.Sizes.{Sizes}
+use Rattle.refusal.specs.declared.Refusal.{Refusal}
 use Rattle.refusal.specs.Refusal.{number_of}
-use Rattle.refusal.specs.Refusal.Laws.{unless-number_of}
+use Rattle.refusal.specs.Refusal.Laws.{unless-number_of, unless-ok}
 
 -- so much for each row
 pub weighted_most : (on off a b c : ℕ) → on + off ≤ rows_most → a ≤ c → b ≤ c → on * a + off * b ≤ rows_most * c
@@ -176,3 +178,9 @@ module _ (q : Request) where
   pub sizes_refusal : number_of (sizes_of q) ≡ refusal_of q
   unfolding sizes_of
   sizes_refusal = unless-number_of (refusal_of q) (counts_of q) (refusal_most q)
+
+  -- and where there is none they are V, C and T
+  pub sizes_values : (x : Result Sizes Refusal) → x ≡ sizes_of q → IfOk x (λ s. s ≡ counts_of q)
+  unfolding sizes_of
+  sizes_values (Ok s) e = sym (unless-ok (refusal_of q) (counts_of q) s (sym e)).1
+  sizes_values (Err f) e = tt

@@ -1,5 +1,7 @@
 // How many variables, clauses and literals a request's clauses have, by the counts of on and off rows.
-ghost use Rattle.std.specs.Prelude.{◌≡◌, ◌≤◌};
+ghost use Rattle.std.specs.Prelude.{◌≡◌, ◌≤◌, IfOk};
+ghost use Rattle.refusal.specs.Refusal.{number_of};
+ghost use Rattle.request.specs.Numbers.{refusal_of};
 ghost use Rattle.formula.specs.Count.{variable_count, clause_count, literal_count, counts_of, sizes_of};
 
 use crate::{blocks, groups, off_row, on_row};
@@ -48,7 +50,9 @@ pub(crate) fn sizes(good: GoodRequest) -> Sizes
 
 // V, C and T of a request.
 pub fn count(q: Request) -> Result<Sizes, Refusal>
-    ensures { result ≡ sizes_of q }
+    ensures answer { result ≡ sizes_of q }
+    ensures number { number_of result ≡ refusal_of q }
+    ensures values { IfOk result (λ size. size ≡ counts_of q) }
 {
     let good = q.test()?;
     Ok(sizes(good))

@@ -9,17 +9,27 @@ use formula::Clause;
 use request::Request;
 use request::numbers::GoodRequest;
 
-// The row that has this clause of the rows' clauses, where an on row has so many and an off row so many.
+// The row that has this clause of the rows' clauses, where an on row has so many and an off row so many: found by halving.
 fn row_of(good: GoodRequest, on: u32, off: u32, number: u32) -> Option<u32>
     requires { (on ≤ 50000) × (off ≤ 50000) }
     ensures { MatchOption result (split good.request on off (2 ^ good.request.n) ≤ number)
         (λ k. (k < 2 ^ good.request.n) × (split good.request on off k ≤ number) × (number < split good.request on off (k + 1))) }
 {
-    (0..blocks::row_count(good)).find(
-        |&k|
-            requires { (k < 2 ^ good.request.n) × (on ≤ 50000) × (off ≤ 50000) }
-        { number < blocks::weighted(good, k + 1, on, off) },
-    )
+    let rows = blocks::row_count(good);
+    if blocks::weighted(good, rows, on, off) <= number {
+        return None;
+    }
+    let mut low: u32 = 0;
+    let mut high = rows;
+    while low + 1 < high {
+        let middle = (low + high) / 2;
+        if blocks::weighted(good, middle, on, off) <= number {
+            low = middle;
+        } else {
+            high = middle;
+        }
+    }
+    Some(low)
 }
 
 // The clause of a request with this number; the empty one where there is none, or where the request is refused, so that it cannot fail.

@@ -3,15 +3,16 @@
 // The store is two lent slices: the literals of all clauses, one clause after the other, as signed numbers, and for each clause a
 // pair of offset and length in entries, flat, as document 01 and the C interface have them. What stands past T literals and 2C numbers
 // stays. A refusal writes nothing.
-ghost use Rattle.std.specs.Prelude.{◌≡◌, List, [], ◌∷◌, map, ℕ, ◌+◌, ◌*◌, ◌≤◌, ◌<◌, length, ℤ};
+ghost use Rattle.std.specs.Prelude.{◌≡◌, List, [], ◌∷◌, map, ℕ, ◌+◌, ◌*◌, ◌≤◌, ◌<◌, length, ℤ, IfOk};
 ghost use Rattle.prelude.specs.Written.{written};
-ghost use Rattle.refusal.specs.Refusal.{unless};
+ghost use Rattle.refusal.specs.Refusal.{unless, number_of};
 ghost use Rattle.cnf.specs.Cnf.{signed_of};
 ghost use Rattle.formula.specs.Clause.{run, Low, literals_of};
 ghost use Rattle.prelude.specs.Blocks.{flatten, pairs_from};
 ghost use Rattle.formula.specs.Formula.{formula_of};
-ghost use Rattle.formula_clauses.specs.Block.{clauses_in};
-ghost use Rattle.formula_clauses.specs.Store.{signs, room_refusal, store_refusal, store_sizes, stored_literals, stored_pairs, Roomy, BlockRoom, block_sizes, block_literals_in, block_pairs_in};
+ghost use Rattle.formula.specs.Count.{counts_of};
+ghost use Rattle.formula_clauses.specs.Block.{clauses_in, block_formula};
+ghost use Rattle.formula_clauses.specs.Store.{signs, room_refusal, store_refusal, store_sizes, block_refusal, stored_literals, stored_pairs, Roomy, BlockRoom, block_sizes, block_literals_in, block_pairs_in};
 
 use crate::{Block, blocks, count};
 use cnf::Literal;
@@ -105,7 +106,9 @@ fn room(clauses: u32, needed: u32, literals: usize, pairs: usize) -> Result<(), 
 
 // The refusal of storing a request's clauses in slices of these lengths; V, C and T where there is none. Nothing is stored.
 pub fn store_sizes(q: Request, literals: usize, pairs: usize) -> Result<Sizes, Refusal>
-    ensures { result ≡ store_sizes q literals pairs }
+    ensures answer { result ≡ store_sizes q literals pairs }
+    ensures number { number_of result ≡ store_refusal q literals pairs }
+    ensures values { IfOk result (λ size. size ≡ counts_of q) }
 {
     let good = q.test()?;
     let size = count::sizes(good);
@@ -162,6 +165,7 @@ fn fill(good: GoodRequest, literals: &mut [i32], pairs: &mut [u32])
 // Stores the clauses of a request.
 pub fn store_clauses(q: Request, literals: &mut [i32], pairs: &mut [u32]) -> Result<(), Refusal>
     ensures answer { result ≡ unless (store_refusal q (length literals.old) (length pairs.old)) tt }
+    ensures number { number_of result ≡ store_refusal q (length literals.old) (length pairs.old) }
     ensures literals { literals.new ≡ stored_literals q (length pairs.old) literals.old }
     ensures pairs { pairs.new ≡ stored_pairs q (length literals.old) pairs.old }
 {
@@ -181,6 +185,8 @@ pub fn store_block(
     pairs: &mut [u32],
 ) -> Result<BlockSizes, Refusal>
     ensures answer { result ≡ block_sizes q b (length literals.old) (length pairs.old) }
+    ensures number { number_of result ≡ block_refusal q b (length literals.old) (length pairs.old) }
+    ensures values { IfOk result (λ size. (size.clauses ≡ length (block_formula q b)) × (size.literals ≡ length (flatten (block_formula q b)))) }
     ensures literals { literals.new ≡ block_literals_in q b (length pairs.old) literals.old }
     ensures pairs { pairs.new ≡ block_pairs_in q b (length literals.old) pairs.old }
 {

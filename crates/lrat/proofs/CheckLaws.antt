@@ -18,14 +18,15 @@ use Rattle.lrat.specs.Words.Laws.{plain_reads, literal_reads, read_there, litera
 use Rattle.lrat.specs.Words.Lines.{Ran, ran, deletion_none, deletion_open, deletion_good, addition_none, addition_hintless, addition_open, addition_good, line_none, line_open, line_deletion, line_addition}
 use Rattle.lrat.specs.Bytes.{AfterLiterals}
 use Rattle.lrat.specs.State.{stands_in, clause_at, last_id, without, hints_of, Deleted, deleted, delete_all, AddedInText, Hinted, AfterHints}
-use Rattle.lrat.specs.Outcome.{Outcome, outcome_of}
+use Rattle.lrat.specs.Outcome.{Outcome, outcome_number, outcome_of, end_number}
+use Rattle.lrat.specs.Outcome.Ending.{refused, ending_of, in_numbers}
 use Rattle.lrat.specs.Results.{step_of_left, Leaves, Deletes, Ends}
 use Rattle.lrat.proofs.OutcomeLaws.{outcome_none}
 use Rattle.lrat.proofs.RulesSound.{hinted_low, hinted_not_one}
 use Rattle.refusal.specs.declared.Refusal.{Refusal}
 use Rattle.refusal.specs.declared.Refusal.TheVariants.{TextEnds}
 use Rattle.refusal.specs.Refusal.{number, number_of}
-use Rattle.refusal.specs.Refusal.Laws.{numbered_number, unless-ok, unless-number_of, number_some}
+use Rattle.refusal.specs.Refusal.Laws.{numbered_number, unless-ok, unless-number_of, number_some, numbered_back}
 use Rattle.added.specs.Record.{Room, fits}
 use Rattle.added.proofs.RecordLaws.{fits_room}
 use Rattle.lrat.proofs.StateAdded.{good_below, spelled_at, additions_none, additions_more, additions_deleted}
@@ -611,3 +612,23 @@ lines_from_coded (suc f) F t variables a added p e =
 pub lines_coded : (F : Formula) (t : List ℕ) (variables : ℕ) (added : List ℕ) → (lines_of F t variables added).code ≡ 0 → ⊥
 unfolding lines_of
 lines_coded F t variables added = lines_from_coded (length t) F t variables 0 added 0
+
+-- ---- so the outcome of lines over any formula has the number that the rule gives
+pub lines_number : (F : Formula) (t : List ℕ) (variables : ℕ) (added : List ℕ)
+    → outcome_number (outcome_of (lines_of F t variables added).code) ≡ end_number (lines_of F t variables added).code
+unfolding outcome_of end_number
+lines_number F t variables added = by (lines_of F t variables added).code (lines_low F t variables added) (lines_coded F t variables added)
+  where
+    by : (k : ℕ) → k ≤ 24 → (k ≡ 0 → ⊥) → outcome_number (outcome_of k) ≡ end_number k
+    by k h n =
+        ⊎_elim (λ (z : k ≡ 1). rw (eq-eqb k 1 z)) (λ (d : k ≡ 1 → ⊥). rw (ne_eqb k 1 d) (numbered_back k n h)) (eq? k 1)
+
+-- and in numbers it is the ending in their code: "none", or a refusal with that very number
+pub lines_ending : (F : Formula) (t : List ℕ) (variables : ℕ) (added : List ℕ)
+    → in_numbers (outcome_of (lines_of F t variables added).code) ≡ ending_of (lines_of F t variables added).code
+unfolding outcome_of ending_of
+lines_ending F t variables added = by (lines_of F t variables added).code (lines_low F t variables added) (lines_coded F t variables added)
+  where
+    by : (k : ℕ) → k ≤ 24 → (k ≡ 0 → ⊥) → in_numbers (outcome_of k) ≡ ending_of k
+    by k h n =
+        ⊎_elim (λ (z : k ≡ 1). rw (eq-eqb k 1 z)) (λ (d : k ≡ 1 → ⊥). rw (ne_eqb k 1 d) (ap refused (numbered_back k n h))) (eq? k 1)

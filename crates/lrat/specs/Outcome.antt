@@ -4,6 +4,7 @@ use Rattle.refusal.specs.declared.Refusal.{Refusal}
 use Rattle.refusal.specs.Refusal.{number, numbered}
 use Rattle.lrat.specs.declared.Checked.{Checked}
 use Rattle.lrat.specs.Rules.{says_none}
+pub mod Ending
 
 -- "none", or a refusal
 abbrev pub Outcome : Type 0

@@ -52,6 +52,19 @@ answers_differ (Err x) (Ok None) e f = absurd (number_some x e)
 answers_differ (Err x) (Ok (Some k)) e f = absurd (number_some x e)
 answers_differ (Err x) (Err y) e f = ap Err (sym (numbered_number x) ∙ ap numbered e ∙ numbered_number y)
 
+-- where no rule refuses no answer is a refusal, by the three tests
+not_refused : (a b c : Bool) (k x : ℕ) (e : Refusal) → (T (not a) → x ≡ 0 → ⊥)
+    → cond a (cond b (Ok (cond c (Some k) None)) (Err NetworkForm)) (Err (numbered x)) ≡ Err e → cond a (cond b 0 13) x ≡ 0 → ⊥
+not_refused false b c k x e h f z = h tt z
+not_refused true false c k x e h f z = cc
+not_refused true true c k x e h f z = cc
+
+pub refusal_numbered : (q : Request) (w : Network) (e : Refusal) → checked_of q w ≡ Err e → checked_number q w ≡ 0 → ⊥
+unfolding checked_of rows_answer checked_number
+refusal_numbered q w e =
+    not_refused (eqb (refusal_of q) 0) (fitting q w) (ltb (first_wrong q w) (2 ^ q.n)) (first_wrong q w) (refusal_of q) e
+    (neqb→ne (refusal_of q) 0)
+
 -- and no refusal's number is 0
-pub refusal_numbered : (q : Request) (w : Network) (e : Refusal) → checked_of q w ≡ Err e → number e ≡ 0 → ⊥
-refusal_numbered q w e _ = number_some e
+pub refusal_some : (q : Request) (w : Network) (e : Refusal) → checked_of q w ≡ Err e → number e ≡ 0 → ⊥
+refusal_some q w e _ = number_some e

@@ -9,6 +9,7 @@ ghost use Rattle.std.specs.Prelude.{◌≡◌, true, false, ℕ, ◌+◌, ◌*�
 ghost use Rattle.request.specs.Numbers.{switches_most};
 ghost use Rattle.rows.specs.Rows.{literal_value, row_at};
 ghost use Rattle.network.specs.Check.{shut_at, label_in, near_in, at_sink, leads, touching, nearer, near, move, apart, literals_low, labels_lowest, row_right, fitting, rows_answer, number_of, values_of, checked_number, checked_values, checked_of};
+ghost use Rattle.network.specs.Networks.{terminals};
 ghost use Rattle.network.specs.Value.{terminals_most, listed};
 ghost use Rattle.network.specs.Meaning.{Means};
 
@@ -17,7 +18,6 @@ use refusal::Refusal;
 use request::Request;
 use request::numbers::GoodRequest;
 use rows::Kind;
-use std::array;
 
 // A mark for each terminal.
 type Marks = [bool; TERMINALS];
@@ -36,10 +36,13 @@ impl Nets {
     fn on_row(q: GoodRequest, w: Network, k: u8) -> Nets
         ensures size { result.r ≡ q.request.r }
         ensures labels { result.labels ≡ w.labels }
-        ensures shut { (s : ℕ) → s < switches_most → get_or result.shut s false ≡ literal_value q.request.n k (get_or w.literals s 0) }
+        ensures shut { (s : ℕ) → s < q.request.r → get_or result.shut s false ≡ literal_value q.request.n k (get_or w.literals s 0) }
     {
         let literals = w.literals;
-        let shut = literals.map(|literal| rows::literal_on(q.request.n, k, literal));
+        let mut shut = [false; LITERALS];
+        for s in 0..q.request.r as usize {
+            shut[s] = rows::literal_on(q.request.n, k, literals[s]);
+        }
         let labels = w.labels;
         Nets {
             r: q.request.r,
@@ -49,68 +52,82 @@ impl Nets {
     }
 
     // The terminals on the sink's net.
-    fn at_sink(self) -> Marks
-        ensures { (i : ℕ) → i < terminals_most → get_or result i false ≡ at_sink self.r (label_in self.labels) i }
+    fn at_sink(&self) -> Marks
+        ensures { (i : ℕ) → i < terminals self.now.r → get_or result i false ≡ at_sink self.now.r (label_in self.now.labels) i }
     {
-        let sink = self.labels[2 * (self.r as usize) + 1];
-        self.labels.map(|label| label == sink)
+        let sink = 2 * (self.r as usize) + 1;
+        let mut marks = [false; TERMINALS];
+        for i in 0..sink + 1 {
+            marks[i] = self.labels[i] == self.labels[sink];
+        }
+        marks
     }
 
     // Whether e is an end of a closed switch on the net of terminal i, and the switch's other end is marked.
-    fn leads(self, marked: Marks, i: usize, e: usize) -> bool
-        requires { (i < terminals_most) × (1 ≤ e) × (e ≤ 2 * self.r) }
-        ensures { result ≡ leads self.r (shut_at self.shut) (label_in self.labels) (near_in marked) i e }
+    fn leads(&self, marked: &Marks, i: usize, e: usize) -> bool
+        requires { (i < terminals_most) × (1 ≤ e) × (e ≤ 2 * self.now.r) }
+        ensures { result ≡ leads self.now.r (shut_at self.now.shut) (label_in self.now.labels) (near_in marked.now) i e }
     {
         let s = (e - 1) / 2;
         self.labels[i] == self.labels[e] && self.shut[s] && marked[4 * s + 3 - e]
     }
 
     // Whether some closed switch leads from the net of terminal i to a terminal that is marked.
-    fn touches(self, marked: Marks, i: usize) -> bool
+    fn touches(&self, marked: &Marks, i: usize) -> bool
         requires { i < terminals_most }
-        ensures { result ≡ touching self.r (shut_at self.shut) (label_in self.labels) (near_in marked) i }
+        ensures { result ≡ touching self.now.r (shut_at self.now.shut) (label_in self.now.labels) (near_in marked.now) i }
     {
         (1..2 * (self.r as usize) + 1).any(|e| self.leads(marked, i, e))
     }
 
     // The terminals that are marked, and those one closed switch away from one that is.
-    fn one_more(self, marked: Marks) -> Marks
-        ensures { (i : ℕ) → i < terminals_most → get_or result i false ≡ nearer self.r (shut_at self.shut) (label_in self.labels) (near_in marked) i }
+    fn one_more(&self, marked: &Marks) -> Marks
+        ensures { (i : ℕ) → i < terminals self.now.r → get_or result i false ≡ nearer self.now.r (shut_at self.now.shut) (label_in self.now.labels) (near_in marked.now) i }
     {
-        array::from_fn(|i| marked[i] || self.touches(marked, i))
+        let mut more = *marked;
+        for i in 0..2 * (self.r as usize) + 2 {
+            if !marked[i] && self.touches(marked, i) {
+                more[i] = true;
+            }
+        }
+        more
     }
 
     // Whether a walk of at most m closed switches joins the source's net to the sink's.
-    fn near_source(self, m: u8) -> bool
-        ensures { result ≡ near self.r (shut_at self.shut) (label_in self.labels) m 0 }
+    fn near_source(&self, m: u8) -> bool
+        ensures { result ≡ near self.now.r (shut_at self.now.shut) (label_in self.now.labels) m 0 }
     {
         let mut marked = self.at_sink();
         for _ in 0..m {
-            marked = self.one_more(marked);
+            marked = self.one_more(&marked);
         }
         marked[0]
     }
 
+    // The parts with part q made part p.
+    fn merge(&self, parts: Labels, p: u8, q: u8) -> Labels
+        ensures { (i : ℕ) → i < terminals self.now.r → get_or result i 0 ≡ move true p q (get_or parts i 0) }
+    {
+        let mut merged = [0; TERMINALS];
+        for i in 0..2 * (self.r as usize) + 2 {
+            merged[i] = if parts[i] == q { p } else { parts[i] };
+        }
+        merged
+    }
+
     // Whether no walk of closed switches joins the source's net to the sink's.
-    fn kept_apart(self) -> bool
-        ensures { result ≡ apart self.r (shut_at self.shut) (label_in self.labels) }
+    fn kept_apart(&self) -> bool
+        ensures { result ≡ apart self.now.r (shut_at self.now.shut) (label_in self.now.labels) }
     {
         let count = self.r as usize;
         let mut parts = self.labels;
         for s in 0..count {
             if self.shut[s] {
-                parts = merge(parts, parts[2 * s + 1], parts[2 * s + 2]);
+                parts = self.merge(parts, parts[2 * s + 1], parts[2 * s + 2]);
             }
         }
         parts[0] != parts[2 * count + 1]
     }
-}
-
-// The parts with part q made part p.
-fn merge(parts: Labels, p: u8, q: u8) -> Labels
-    ensures { (i : ℕ) → i < terminals_most → get_or result i 0 ≡ move true p q (get_or parts i 0) }
-{
-    parts.map(|part| if part == q { p } else { part })
 }
 
 // Whether every literal is below 2n.

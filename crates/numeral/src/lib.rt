@@ -3,13 +3,22 @@
 #![tactic(auto)]
 
 ghost use Rattle.std.specs.Prelude.{◌≡◌};
-ghost use Rattle.numeral.specs.Number.{byte_at, number_at, literal_at};
+ghost use Rattle.numeral.specs.Number.{byte_at, word, number_at, literal_at};
 ghost use Rattle.numeral.specs.Number.Words.{sign_number, word_of};
 
 // A number in the text: whether a minus stands before it, its value, and the place after it.
 #[derive(Clone, Copy, Debug, PartialEq, Eq)]
 pub struct Word {
     pub minus: bool,
+    pub value: usize,
+    pub next: usize,
+}
+
+// The same for a caller with a number for what stands before: that number, but 0 at a number 0, then the value and the place after it.
+// All three are 0 where there is no number.
+#[derive(Clone, Copy, Debug, PartialEq, Eq)]
+pub struct Scanned {
+    pub minus: u8,
     pub value: usize,
     pub next: usize,
 }
@@ -69,4 +78,22 @@ pub fn literal(text: &[u8], at: usize) -> Option<Word>
         return number(text, at + 1, true);
     }
     number(text, at, false)
+}
+
+// The number from at on, after a minus where `minus` is 1, and after none where it is another number.
+pub fn number_after(text: &[u8], at: usize, minus: u8) -> Scanned
+    ensures { word result.minus result.value result.next ≡ number_at text.now at minus }
+{
+    match number(text, at, minus == 1) {
+        Some(w) => Scanned {
+            minus: if byte(text, at) == b'0' { 0 } else { minus },
+            value: w.value,
+            next: w.next,
+        },
+        None => Scanned {
+            minus: 0,
+            value: 0,
+            next: 0,
+        },
+    }
 }

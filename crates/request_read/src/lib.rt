@@ -3,14 +3,28 @@
 // r and M, in this order.
 #![tactic(auto)]
 
-ghost use Rattle.std.specs.Prelude.{◌≡◌, ◌≤◌, ◌<◌, Bool, List, ℕ, IfOk, length};
+ghost use Rattle.std.specs.Prelude.{◌≡◌, ◌≤◌, ◌<◌, Bool, true, false, List, ℕ, IfOk, length};
 ghost use Rattle.request.specs.Numbers.{inputs_most, rows_most};
-ghost use Rattle.request.specs.Line.{number_of, values_of, single, row_character, is_table, marked, request_number, request_values, request_of, numbers_of};
+ghost use Rattle.request.specs.Line.{number_of, values_of, field_character, single, row_character, is_table, marked, request_number, request_values, request_of, numbers_of};
 ghost use Rattle.request_read.specs.Field.{field_end, digit_within};
 ghost use Rattle.request_read.specs.Part.{Runs};
 
 use refusal::Refusal;
 use request::{INPUTS, Request, SERIES, SWITCHES};
+
+// Whether a byte may stand in n, r or M: a digit,
+fn in_number(b: u8) -> bool
+    ensures { result ≡ field_character false b }
+{
+    b.is_ascii_digit()
+}
+
+// and in the table "-" too.
+fn in_table(b: u8) -> bool
+    ensures { result ≡ field_character true b }
+{
+    in_number(b) || b == b'-'
+}
 
 // The end of the run of bytes that pass a test, from a place on. A run that is empty, or has not the byte `after` behind it, is refused.
 fn field_end<F: Fn(u8) -> bool>(
@@ -100,10 +114,10 @@ pub fn read_request(text: &[u8]) -> Result<Request, Refusal>
     ensures number { number_of result ≡ request_number text.now }
     ensures values { values_of result ≡ request_values text.now }
 {
-    let a = field_end(text, 0, b' ', |b| b.is_ascii_digit())?;
-    let b = field_end(text, a + 1, b' ', |b| b.is_ascii_digit() || b == b'-')?;
-    let c = field_end(text, b + 1, b' ', |b| b.is_ascii_digit())?;
-    let d = field_end(text, c + 1, b'\n', |b| b.is_ascii_digit())?;
+    let a = field_end(text, 0, b' ', |b| in_number(b))?;
+    let b = field_end(text, a + 1, b' ', |b| in_table(b))?;
+    let c = field_end(text, b + 1, b' ', |b| in_number(b))?;
+    let d = field_end(text, c + 1, b'\n', |b| in_number(b))?;
     if d + 1 != text.len() {
         return Err(Refusal::RequestLine);
     }

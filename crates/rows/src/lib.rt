@@ -59,11 +59,7 @@ pub fn rows_in(rows: u16) -> u32
 pub fn rows_below(rows: u16, k: u8) -> u32
     ensures { result ≡ set_below rows k }
 {
-    if (k as u32) < ROWS {
-        (rows % (1 << k)).count_ones()
-    } else {
-        rows_in(rows)
-    }
+    (rows as u32 % (1 << (k as u32).min(ROWS))).count_ones()
 }
 
 // The rows on which input v is 1.

@@ -1,6 +1,6 @@
 -- Laws of the store: literals written on, that the part which pair k names is clause k, and what each refusal answers and leaves.
 -- Assumes nothing.
-use Rattle.std.specs.Prelude.{◌≡◌, Ok, Err}
+use Rattle.std.specs.Prelude.{◌≡◌, Result, Ok, Err, IfOk}
 use Rattle.std.proofs.Math.Path.{refl, sym, ap, ap₂}
 use Rattle.std.proofs.Common.{◌∙◌, subst, arith, take_all, drop_at}
 use mathlib.Core.List.{List, [], ◌∷◌, ◌++◌, append_assoc, append-nil, map-append}
@@ -386,6 +386,11 @@ module _ (q : Request) (literals pairs : ℕ) where
   unfolding store_sizes
   sizes_refusal = unless-number_of (store_refusal q literals pairs) (counts_of q) (room_most _ _ _ _ _ (refusal_most q))
 
+  -- and where there is none they are V, C and T
+  pub sizes_values : (x : Result Sizes Refusal) → x ≡ store_sizes q literals pairs → IfOk x (λ s. s ≡ counts_of q)
+  sizes_values (Ok s) e = (sizes_ok s e).1
+  sizes_values (Err f) e = tt
+
   -- and that of storing
   pub store_number : number_of (unless {A = Unit {0}} (store_refusal q literals pairs) tt) ≡ store_refusal q literals pairs
   store_number = unless-number_of {A = Unit {0}} (store_refusal q literals pairs) tt (room_most _ _ _ _ _ (refusal_most q))
@@ -457,6 +462,14 @@ module _ (q : Request) (b literals pairs : ℕ) where
       → (block_refusal q b literals pairs ≡ 0) × (x ≡ record { clauses = length (block_formula q b); literals = length (flatten (block_formula q b)) })
   unfolding block_sizes
   block_ok x e = let u = unless-ok (block_refusal q b literals pairs) _ x (sym e) in (u.0, sym u.1)
+
+  -- of a result too
+  pub block_values : (x : Result BlockSizes Refusal) → x ≡ block_sizes q b literals pairs
+      → IfOk x (λ s. (s.clauses ≡ length (block_formula q b)) × (s.literals ≡ length (flatten (block_formula q b))))
+  block_values (Ok s) e =
+      let u = (block_ok s e).1 in
+      (ap (λ (y : BlockSizes). y.clauses) u, ap (λ (y : BlockSizes). y.literals) u)
+  block_values (Err f) e = tt
 
   -- where there are clauses, nothing is refused, and the block is there
   pub record Some : Type 0 where

@@ -14,10 +14,10 @@ use Rattle.formula_clauses.specs.Store.{store_sizes, stored_formula, stored_vari
 use Rattle.lrat.specs.Words.{text_limit}
 use Rattle.lrat.specs.Bytes.{zeros}
 use Rattle.lrat.specs.Check.{Left, lines_of}
-use Rattle.lrat.proofs.CheckLaws.{lines_coded, lines_low}
+use Rattle.lrat.proofs.CheckLaws.{lines_coded, lines_number}
 use Rattle.lrat.specs.Outcome.{Outcome, number_of, values_of, outcome_of}
 use Rattle.refusal.specs.Refusal.Laws.{number_some}
-use Rattle.lrat.proofs.OutcomeLaws.{outcome_number_lem}
+use Rattle.lrat.proofs.OutcomeLaws.{refused_numbered}
 use Rattle.lrat_check.specs.Refutation.{Lent, lent, refusal_before, lines_for, check_number, check_values, check_answer, check_leaves}
 
 numbered_same : (n : ℕ) → (n ≡ 0 → ⊥) → refused_with (unless {A = Unit {0}} n tt) ≡ n → number (numbered n) ≡ n
@@ -25,16 +25,38 @@ numbered_same zero d e = absurd (d refl)
 numbered_same (suc n) d e = e
 
 module _ (q : Request) (text : List ℕ) (s : Lent) where
+  -- the refusal before the lines has the number that it is made of
+  before_numbered : refused_with (unless {A = Unit {0}} (refusal_before q (length text) s) tt) ≡ refusal_before q (length text) s
+  unfolding refusal_before store_sizes
+  before_numbered =
+      by (eqb (store_refusal q (length s.literals) (length s.pairs)) 0) (leb (length s.values) (stored_variables q)) (ltb text_limit (length text))
+    where
+      same : (n : ℕ) {A : Type 0} (x : A) → refused_with (unless n x) ≡ n → refused_with (unless {A = Unit {0}} n tt) ≡ n
+      same zero x e = refl
+      same (suc n) x e = e
+
+      by : (b c d : Bool) → refused_with (unless {A = Unit {0}} (cond b (cond c 14 (cond d 15 0)) (store_refusal q (length s.literals) (length s.pairs))) tt)
+          ≡ cond b (cond c 14 (cond d 15 0)) (store_refusal q (length s.literals) (length s.pairs))
+      by true true d = refl
+      by true false true = refl
+      by true false false = refl
+      by false c d = same _ _ (sizes_refusal q (length s.literals) (length s.pairs))
+
   -- what a refusal answers and leaves
   pub record Stops (k : ℕ) : Type 0 where
     pub answer : record { outcome = Err (numbered k); count = 0 } ≡ check_answer q text s
+    pub number_is : number_of (check_answer q text s) ≡ k
     pub slices : s ≡ check_leaves q text s
 
   pub stops : (k : ℕ) → refusal_before q (length text) s ≡ k → (k ≡ 0 → ⊥) → Stops k
   unfolding check_answer check_leaves
   stops k e d =
       let n = ne_eqb (refusal_before q (length text) s) 0 (λ z. d (sym e ∙ z)) in
-      record { answer = sym (rw (n, e)); slices = rw n }
+      record {
+        answer = sym (rw (n, e));
+        number_is = rw n (numbered_same (refusal_before q (length text) s) (λ z. d (sym e ∙ z)) before_numbered ∙ e);
+        slices = rw n;
+      }
 
   -- the refusals of the request, 7 and 8
   pub stops_store : (k : ℕ) → store_refusal q (length s.literals) (length s.pairs) ≡ k → (k ≡ 0 → ⊥) → Stops k
@@ -110,29 +132,12 @@ module _ (q : Request) (text : List ℕ) (s : Lent) where
       absurd (let f = rw (ne_eqb (store_refusal q (length s.literals) (length s.pairs)) 0 d) at e in d f))
       (eq? (store_refusal q (length s.literals) (length s.pairs)) 0)
 
-  -- the refusal before the lines has the number that it is made of
-  before_numbered : refused_with (unless {A = Unit {0}} (refusal_before q (length text) s) tt) ≡ refusal_before q (length text) s
-  unfolding refusal_before store_sizes
-  before_numbered =
-      by (eqb (store_refusal q (length s.literals) (length s.pairs)) 0) (leb (length s.values) (stored_variables q)) (ltb text_limit (length text))
-    where
-      same : (n : ℕ) {A : Type 0} (x : A) → refused_with (unless n x) ≡ n → refused_with (unless {A = Unit {0}} n tt) ≡ n
-      same zero x e = refl
-      same (suc n) x e = e
-
-      by : (b c d : Bool) → refused_with (unless {A = Unit {0}} (cond b (cond c 14 (cond d 15 0)) (store_refusal q (length s.literals) (length s.pairs))) tt)
-          ≡ cond b (cond c 14 (cond d 15 0)) (store_refusal q (length s.literals) (length s.pairs))
-      by true true d = refl
-      by true false true = refl
-      by true false false = refl
-      by false c d = same _ _ (sizes_refusal q (length s.literals) (length s.pairs))
-
   -- the number of the answer is the rule's
   pub answer_number : number_of (check_answer q text s) ≡ check_number q text s
   unfolding check_answer check_number lines_for
   answer_number =
       ⊎_elim
-      (λ (z : refusal_before q (length text) s ≡ 0). rw (eq-eqb (refusal_before q (length text) s) 0 z) (outcome_number_lem (lines_for q text s.added).code (lines_low (stored_formula q) text (stored_variables q) s.added) (lines_coded (stored_formula q) text (stored_variables q) s.added)))
+      (λ (z : refusal_before q (length text) s ≡ 0). rw (eq-eqb (refusal_before q (length text) s) 0 z) (lines_number (stored_formula q) text (stored_variables q) s.added))
       (λ (d : refusal_before q (length text) s ≡ 0 → ⊥). rw (ne_eqb (refusal_before q (length text) s) 0 d) (numbered_same (refusal_before q (length text) s) d before_numbered))
       (eq? (refusal_before q (length text) s) 0)
 
@@ -145,6 +150,17 @@ module _ (q : Request) (text : List ℕ) (s : Lent) where
       (λ (d : refusal_before q (length text) s ≡ 0 → ⊥). rw (ne_eqb (refusal_before q (length text) s) 0 d))
       (eq? (refusal_before q (length text) s) 0)
 
-  -- a refusal has a number other than 0
-  pub answer_numbered : (e : Refusal) → (check_answer q text s).outcome ≡ Err e → number e ≡ 0 → ⊥
-  answer_numbered e f = number_some e
+  -- a check that is refused has a number other than 0
+  pub answer_numbered : (e : Refusal) → (check_answer q text s).outcome ≡ Err e → check_number q text s ≡ 0 → ⊥
+  unfolding check_answer check_number lines_for
+  answer_numbered e f z =
+      ⊎_elim
+      (λ (y : refusal_before q (length text) s ≡ 0).
+      refused_numbered (lines_for q text s.added).code (lines_coded (stored_formula q) text (stored_variables q) s.added) e
+      (rw (eq-eqb (refusal_before q (length text) s) 0 y) at f) (rw (eq-eqb (refusal_before q (length text) s) 0 y) at z))
+      (λ (d : refusal_before q (length text) s ≡ 0 → ⊥). d (rw (ne_eqb (refusal_before q (length text) s) 0 d) at z))
+      (eq? (refusal_before q (length text) s) 0)
+
+  -- no refusal that it gives has the number 0
+  pub answer_some : (e : Refusal) → (check_answer q text s).outcome ≡ Err e → number e ≡ 0 → ⊥
+  answer_some e f = number_some e

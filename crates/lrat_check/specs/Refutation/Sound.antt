@@ -10,13 +10,13 @@ use Rattle.request.specs.declared.Request.{Request}
 use Rattle.network.specs.Least.{MoreThan}
 use Rattle.formula_clauses.specs.Store.{stored_formula, stored_variables, store_refusal}
 use Rattle.formula_clauses.specs.Store.Laws.{none_taken}
+use Rattle.lrat.proofs.CheckLaws.{lines_number}
 use Rattle.lrat.proofs.CheckSound.{none_sound}
 use Rattle.lrat.specs.Outcome.{Outcome, outcome_number}
 use Rattle.refusal.specs.Refusal.Laws.{number_some}
 use Rattle.lrat.proofs.OutcomeLaws.{none_code}
 use Rattle.encoding.proofs.Least.{unsat_least}
 use Rattle.lrat_check.specs.Refutation.{Lent, refusal_before, lines_for, check_number, check_answer}
-use Rattle.lrat_check.specs.Refutation.Laws.{answer_number}
 
 -- an outcome with the number 0 is "none"
 outcome_zero : (o : Outcome) → outcome_number o ≡ 0 → o ≡ Ok tt
@@ -56,4 +56,11 @@ module _ (q : Request) (text : List ℕ) (s : Lent) where
 
   -- so the number 0 is that of "none" alone
   pub number_none : check_number q text s ≡ 0 → (check_answer q text s).outcome ≡ Ok tt
-  number_none e = outcome_zero (check_answer q text s).outcome (answer_number q text s ∙ e)
+  unfolding check_answer check_number lines_for
+  number_none e =
+      ⊎_elim
+      (λ (z : refusal_before q (length text) s ≡ 0).
+      rw (eq-eqb (refusal_before q (length text) s) 0 z)
+      (outcome_zero _ (lines_number (stored_formula q) text (stored_variables q) s.added ∙ rw (eq-eqb (refusal_before q (length text) s) 0 z) at e)))
+      (λ (d : refusal_before q (length text) s ≡ 0 → ⊥). absurd (d (rw (ne_eqb (refusal_before q (length text) s) 0 d) at e)))
+      (eq? (refusal_before q (length text) s) 0)

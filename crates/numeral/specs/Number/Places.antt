@@ -24,7 +24,7 @@ digit? b =
     (le? 48 b)
 
 -- digits end inside the text
-digits_ends : (f m x : ℕ) (t : List ℕ) (p : ℕ) → m ≤ 1 → p ≤ length t
+pub digits_ends : (f m x : ℕ) (t : List ℕ) (p : ℕ) → m ≤ 1 → p ≤ length t
     → (p ≤ (digits_at f m x t p).next) × ((digits_at f m x t p).next ≤ length t) × ((digits_at f m x t p).minus ≤ 1)
 unfolding digits_at
 digits_ends zero m x t p s h = (omega arith, h, s)

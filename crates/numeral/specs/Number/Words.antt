@@ -1,10 +1,13 @@
 -- What is read at a place, as the program gives it: a word, or none. Assumes nothing.
-use Rattle.std.specs.Prelude.{◌≡◌, refl, Bool, true, false, cond, List, ℕ, zero, suc, ◌≤◌, eqb}
-use Rattle.std.proofs.Common.{Option, Some, None, ap, ◌∙◌, subst, arith}
+use Rattle.std.specs.Prelude.{◌≡◌, refl, Bool, true, false, cond, List, ◌⊎◌, ℕ, zero, suc, ◌+◌, ◌-◌, ◌*◌, ◌≤◌, eqb}
+use Rattle.std.proofs.Common.{Option, Some, None, sym, ap, ◌∙◌, subst, inl, inr, arith}
 use Rattle.std.proofs.Common.{arith}
+use borrow.Author.Tests.{ne_eqb}
+use Rattle.prelude.specs.Tests.{eq?}
 use Rattle.numeral.specs.declared.Word.{Word}
-use Rattle.numeral.specs.Number.{Read, word, number_at, literal_at}
-use Rattle.numeral.specs.Number.Places.{number_within, literal_within}
+use Rattle.numeral.specs.Number.{Read, byte_at, is_digit, word, no_word, digits_at, number_at, literal_at}
+use Rattle.numeral.specs.Number.Laws.{number_none, number_minus, number_zero, number_some}
+use Rattle.numeral.specs.Number.Places.{byte_in, digit?, digits_ends, number_within, literal_within}
 
 -- 1 for a minus, 0 for none
 abbrev pub sign_number : Bool → ℕ
@@ -62,3 +65,59 @@ number_word t p minus w e = some_read _ w (number_within t p (sign_number minus)
 
 pub literal_word : (t : List ℕ) (p : ℕ) (w : Word) → Some w ≡ word_of (literal_at t p) → Is (literal_at t p) w
 literal_word t p w e = some_read _ w (literal_within t p).sign e
+
+-- what stands before a number changes nothing but the minus of what is read
+same_cond : (d : Bool) (m : ℕ) (a b a' b' : Read) → a ≡ word m a'.value a'.next → b ≡ word m b'.value b'.next
+    → cond d a b ≡ word m (cond d a' b').value (cond d a' b').next
+same_cond true m a b a' b' e f = e
+same_cond false m a b a' b' e f = f
+
+digits_after : (f m k x : ℕ) (t : List ℕ) (p : ℕ) → digits_at f m x t p ≡ word m (digits_at f k x t p).value (digits_at f k x t p).next
+unfolding digits_at
+digits_after zero m k x t p = refl
+digits_after (suc f) m k x t p =
+    same_cond (is_digit (byte_at t p)) m _ _ _ _ (digits_after f m k (x * 10 + (byte_at t p - 48)) t (p + 1)) refl
+
+-- and of a 0 not that
+number_cond : (z o d : Bool) (m q : ℕ) (A K : Read) → A ≡ word m K.value K.next → (r : Read)
+    → r ≡ cond z (cond o no_word (word 0 0 q)) (cond d K no_word) → (r.next ≡ 0 → ⊥)
+    → word (cond z 0 m) r.value r.next ≡ cond z (cond o no_word (word 0 0 q)) (cond d A no_word)
+number_cond true true d m q A K e r f h = absurd (h (ap (λ (x : Read). x.next) f))
+number_cond true false d m q A K e r f h = rw f refl
+number_cond false o true m q A K e r f h = rw f (sym e)
+number_cond false o false m q A K e r f h = absurd (h (ap (λ (x : Read). x.next) f))
+
+-- a test for 1 of the number that says so
+one_sign : (b : Bool) → eqb (sign_number b) 1 ≡ b
+one_sign true = refl
+one_sign false = refl
+
+pub number_after_some : (t : List ℕ) (p m : ℕ) (w : Word) → Some w ≡ word_of (number_at t p (sign_number (eqb m 1)))
+    → word (cond (eqb (byte_at t p) 48) 0 m) w.value w.next ≡ number_at t p m
+unfolding number_at
+number_after_some t p m w e =
+    let i = number_word t p (eqb m 1) w e in
+    let K = digits_at 8 (sign_number (eqb m 1)) (byte_at t p - 48) t (p + 1) in
+    number_cond (eqb (byte_at t p) 48) (eqb m 1) (is_digit (byte_at t p)) m (p + 1) (digits_at 8 m (byte_at t p - 48) t (p + 1)) K
+    (digits_after 8 m (sign_number (eqb m 1)) (byte_at t p - 48) t (p + 1)) (word (sign_number w.minus) w.value w.next)
+    (sym i.read ∙ ap (λ (o : Bool). cond (eqb (byte_at t p) 48) (cond o no_word (word 0 0 (p + 1))) (cond (is_digit (byte_at t p)) K no_word)) (one_sign (eqb m 1)))
+    i.there
+
+pub number_after_none : (t : List ℕ) (p m : ℕ) → None ≡ word_of (number_at t p (sign_number (eqb m 1))) → no_word ≡ number_at t p m
+number_after_none t p m e = go (digit? (byte_at t p)) (eq? (byte_at t p) 48) (eq? m 1)
+  where
+    none : (number_at t p (sign_number (eqb m 1))).next ≡ 0
+    none = none_read _ e
+
+    go : (is_digit (byte_at t p) ≡ false) ⊎ ((is_digit (byte_at t p) ≡ true) × (48 ≤ byte_at t p) × (byte_at t p ≤ 57))
+        → (byte_at t p ≡ 48) ⊎ (byte_at t p ≡ 48 → ⊥) → (m ≡ 1) ⊎ (m ≡ 1 → ⊥) → no_word ≡ number_at t p m
+    go (inl f) b c = sym (number_none t p m f)
+    go (inr w) (inl z) (inl y) = sym (number_minus t p m z y)
+    go (inr w) (inl z) (inr d) =
+        let apart : sign_number (eqb m 1) ≡ 1 → ⊥ = rw (ne_eqb m 1 d) (λ k. omega arith) in
+        let end : (number_at t p (sign_number (eqb m 1))).next ≡ p + 1 = rw (number_zero t p (sign_number (eqb m 1)) z apart) refl in
+        absurd (omega (arith, none, end))
+    go (inr w) (inr d) c =
+        let some = number_some t p (sign_number (eqb m 1)) d w.1 w.2 in
+        let r = digits_ends 8 (sign_number (eqb m 1)) (byte_at t p - 48) t (p + 1) (sign_low (eqb m 1)) (omega (arith, byte_in t p (λ q. omega arith))) in
+        absurd (omega (arith, none, ap (λ (x : Read). x.next) some, r.0))

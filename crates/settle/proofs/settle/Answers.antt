@@ -100,7 +100,7 @@ pub returns-in_err-network : goal.returns-in_err-network
 returns-in_err-network c =
     let e = err_from_is_err_and c.from_residual.result c.from_residual.ensures.1 in
     let p = is-refused c.args.q c.args.answer.now c.args.refutation.now c.args.literals.now c.args.pairs.now
-    c.args.added.now c.args.values.now _ c.in_err-network.ensures _ (e.1 ∙ ap Err e.2) in
+    c.args.added.now c.args.values.now _ c.in_err-network.ensures.reading _ (e.1 ∙ ap Err e.2) in
     record { settled = p.0; slices = p.1.0; least = p.1.1.0; number = p.1.1.1.0; values = p.1.1.1.1 }
 
 pub returns-in_err-row : goal.returns-in_err-row
@@ -108,28 +108,28 @@ returns-in_err-row c =
     let r = c.from_residual-in_err-row in
     let e = err_from_is_err_and r.result r.ensures.1 in
     let p = is-judged c.args.q c.args.answer.now c.args.refutation.now c.args.literals.now c.args.pairs.now
-    c.args.added.now c.args.values.now _ c.in_ok-network.ensures _ c.in_err-row.ensures.answer
+    c.args.added.now c.args.values.now _ c.in_ok-network.ensures.reading _ c.in_err-row.ensures.answer
     _ _ _ refl (e.1 ∙ ap Err e.2) refl in
     record { settled = p.0; slices = p.1.0; least = p.1.1.0; number = p.1.1.1.0; values = p.1.1.1.1 }
 
 pub returns-in-Some : goal.returns-in-Some
 returns-in-Some c =
     let p = is-judged c.args.q c.args.answer.now c.args.refutation.now c.args.literals.now c.args.pairs.now
-    c.args.added.now c.args.values.now _ c.in_ok-network.ensures _ c.in_ok-row.ensures.answer
+    c.args.added.now c.args.values.now _ c.in_ok-network.ensures.reading _ c.in_ok-row.ensures.answer
     _ _ (Ok (Some c.in-Some.row)) (ap Ok c.in-Some.is) refl refl in
     record { settled = p.0; slices = p.1.0; least = p.1.1.0; number = p.1.1.1.0; values = p.1.1.1.1 }
 
 pub returns-in-None : goal.returns-in-None
 returns-in-None c =
     let p = is_zero c.args.q c.args.answer.now c.args.refutation.now c.args.literals.now c.args.pairs.now
-    c.args.added.now c.args.values.now _ c.in_ok-network.ensures _ c.in_ok-row.ensures.answer
+    c.args.added.now c.args.values.now _ c.in_ok-network.ensures.reading _ c.in_ok-row.ensures.answer
     (ap Ok c.in-None.is) (omega (arith, c.if-q-eq0.true)) _ refl in
     record { settled = p.0; slices = p.1.0; least = p.1.1.0; number = p.1.1.1.0; values = p.1.1.1.1 }
 
 pub returns-in-None-2 : goal.returns-in-None-2
 returns-in-None-2 c =
     let p = is-more c.args.q c.args.answer.now c.args.refutation.now c.args.literals.now c.args.pairs.now
-    c.args.added.now c.args.values.now _ c.in_ok-network.ensures _ c.in_ok-row.ensures.answer
+    c.args.added.now c.args.values.now _ c.in_ok-network.ensures.reading _ c.in_ok-row.ensures.answer
     (ap Ok c.in-None-2.is) (λ z. omega (arith, c.if-q-eq0.false))
     _ c.one_fewer.ensures _ c.check-below.ensures.answer _ c.check-below.ensures.slices _ c.verdict_of-verdict.ensures _ refl in
     record { settled = p.0; slices = p.1.0; least = p.1.1.0; number = p.1.1.1.0; values = p.1.1.1.1 }

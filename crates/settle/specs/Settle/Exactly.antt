@@ -1,9 +1,10 @@
 -- "least" is said exactly where the answer is taken, the network does the job and nothing smaller is left. Assumes nothing.
-use Rattle.std.specs.Prelude.{◌≡◌, refl, List, ◌⊎◌, ◌↔◌, ℕ, Some, None, Ok, Err}
+use Rattle.std.specs.Prelude.{◌≡◌, refl, List, ◌⊎◌, ◌↔◌, ℕ, Some, None, Result, Ok, Err}
 use Rattle.std.proofs.Common.{sym, ap, subst, ◌∙◌, inl, inr, ⊎_elim, arith}
 use Rattle.prelude.specs.Tests.{eq?}
 use Rattle.request.specs.declared.Request.{Request}
 use Rattle.network.specs.declared.Network.{Network}
+use Rattle.refusal.specs.declared.Refusal.{Refusal}
 use Rattle.refusal.specs.Refusal.{numbered}
 use Rattle.network.specs.Check.{Checked, rows_answer, checked_of}
 use Rattle.network.proofs.CheckLaws.{checked_rows}
@@ -13,8 +14,14 @@ use Rattle.lrat.specs.Outcome.{Outcome}
 use Rattle.lrat_check.specs.Refutation.{Lent, check_answer}
 use Rattle.settle.specs.declared.Verdict.{Verdict}
 use Rattle.settle.specs.declared.Verdict.TheVariants.{Least}
-use Rattle.settle.specs.Settle.{IsLeast, smaller, outcome_verdict, verdict_below, judged, settlement}
+use Rattle.settle.specs.Settle.{Settling, IsLeast, smaller, outcome_verdict, verdict_below, judged, settlement}
 use Rattle.settle.specs.Settle.Laws.{settles_refused, settles_judged, below_zero, below_more}
+
+-- ---- what settling says
+-- what it says: one of the verdicts, or a refusal
+abbrev pub said : Settling → Result Verdict Refusal
+said (Ok x) = Ok x.verdict
+said (Err e) = Err e
 
 -- ---- the verdict by the check of the network
 -- "least" is said only where the network does the job
@@ -65,6 +72,11 @@ module _ (q : Request) (answer refutation : List ℕ) (s : Lent) where
 
   abbrev checked : Checked
   checked = checked_of q read
+
+  -- what is said of an answer that is taken
+  taken_verdict : (reading_of q answer).refusal ≡ 0
+      → said (judged checked (verdict_below q refutation s) read) ≡ said (settlement q answer refutation s)
+  taken_verdict z = ap said (settles_judged q answer refutation s z checked refl).says
 
   -- an answer that is refused
   pub refused_verdict : ((reading_of q answer).refusal ≡ 0 → ⊥) → Err (numbered (reading_of q answer).refusal) ≡ settlement q answer refutation s

@@ -15,16 +15,16 @@ answered q x e = (ap number_of e ∙ size_number q, ap values_of e ∙ size_valu
 pub returns-in_err-sizes : goal.returns-in_err-sizes
 returns-in_err-sizes c =
     let p = err_from_is_err_and c.from_residual.result c.from_residual.ensures.1 in
-    let e = size_refused c.args.q _ (sizes_refused c.args.q c.in_err-sizes.ensures) in
+    let e = size_refused c.args.q _ (sizes_refused c.args.q c.in_err-sizes.ensures.answer) in
     let a = answered c.args.q _ e in
     rw (p.1, p.2) (record { answer = e; number = a.0; values = a.1 })
 
 pub file_length-requires : goal.file_length-requires
-file_length-requires c = sizes_counted c.args.q c.in_ok-sizes.ensures
+file_length-requires c = sizes_counted c.args.q c.in_ok-sizes.ensures.answer
 
 pub returns : goal.returns
 returns c =
     let q = c.args.q in
-    let e = size_good q (sizes_counted q c.in_ok-sizes.ensures) c.file_length.ensures in
+    let e = size_good q (sizes_counted q c.in_ok-sizes.ensures.answer) c.file_length.ensures in
     let p = answered q _ e in
     record { answer = e; number = p.0; values = p.1 }

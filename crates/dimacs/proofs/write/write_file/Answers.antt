@@ -25,18 +25,18 @@ pub returns-in_err-sizes : goal.returns-in_err-sizes
 returns-in_err-sizes c =
     let a = c.args in
     let p = err_from_is_err_and c.from_residual-in_err-sizes.result c.from_residual-in_err-sizes.ensures.1 in
-    let r = sizes_refused a.q c.in_err-sizes.ensures in
+    let r = sizes_refused a.q c.in_err-sizes.ensures.answer in
     let w = write_refused a.q _ r (length a.buffer.now) in
     let m = answered a.q _ _ w in
     rw (p.1, p.2) (record { answer = w; bytes = file_refused a.q _ r a.buffer.now; meaning = m.0; number = m.1.0; values = m.1.1 })
 
 pub file_length-requires : goal.file_length-requires
-file_length-requires c = sizes_counted c.args.q c.in_ok-sizes.ensures
+file_length-requires c = sizes_counted c.args.q c.in_ok-sizes.ensures.answer
 
 pub returns-then-buffer-file_length : goal.returns-then-buffer-file_length
 returns-then-buffer-file_length c =
     let a = c.args in
-    let counted = sizes_counted a.q c.in_ok-sizes.ensures in
+    let counted = sizes_counted a.q c.in_ok-sizes.ensures.answer in
     let h : length a.buffer.now < length (file_text a.q) = omega (arith, c.file_length.ensures, c.if-buffer-file_length.true) in
     let w = write_short a.q counted {room = length a.buffer.now} h in
     let p = answered a.q _ _ w in
@@ -44,18 +44,18 @@ returns-then-buffer-file_length c =
 
 pub put_head-requires : goal.put_head-requires
 put_head-requires c =
-    let n = file_length c.args.q (sizes_counted c.args.q c.in_ok-sizes.ensures) refl refl in
+    let n = file_length c.args.q (sizes_counted c.args.q c.in_ok-sizes.ensures.answer) refl refl in
     omega (arith, c.file_length.ensures, c.if-buffer-file_length.false)
 
 pub put_body-requires : goal.put_body-requires
 put_body-requires c =
     rw c.in_ok-good.ensures.request
-    (body_fits c.args.q (sizes_counted c.args.q c.in_ok-sizes.ensures) _ refl (omega (arith, c.file_length.ensures)) c.put_head.ensures)
+    (body_fits c.args.q (sizes_counted c.args.q c.in_ok-sizes.ensures.answer) _ refl (omega (arith, c.file_length.ensures)) c.put_head.ensures)
 
 pub returns : goal.returns
 returns c =
     let a = c.args in
-    let counted = sizes_counted a.q c.in_ok-sizes.ensures in
+    let counted = sizes_counted a.q c.in_ok-sizes.ensures.answer in
     let room : length (file_text a.q) ≤ length a.buffer.now = omega (arith, c.file_length.ensures) in
     let put = file_put a.q counted _ refl room c.put_head.ensures (rw c.in_ok-good.ensures.request at c.put_body.ensures.text) in
     let x = write_long a.q counted {room = length a.buffer.now} room (file_end a.q counted _ refl room put) in

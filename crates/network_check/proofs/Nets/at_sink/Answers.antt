@@ -1,10 +1,14 @@
-use Rattle.std.proofs.Common.{rules, false, ◌∙◌}
-use Rattle.network.specs.Check.{label_in}
-use Rattle.network.specs.Networks.{sink}
-use lib.Dec.{eqb}
+-- The terminals below the index are tested against the sink's label. Assumes nothing.
+use Rattle.std.proofs.Common.{rules, arith}
 use Rattle.network.proofs.CheckLaws.{sink_test}
-use Rattle.prelude.specs.Arrays.{mapped}
+use Rattle.network_check.proofs.Filled.{filled_none, filled_set}
 use Rattle.network_check.proofs.Nets.at_sink.Goals as goal
 
+pub loop-i-init : goal.loop-i-init
+loop-i-init c = filled_none _ _ _
+
+pub loop-i-preserved : goal.loop-i-preserved
+loop-i-preserved c = filled_set _ _ _ c.loop-i.marks c.loop-i.i _ c.loop-i.invariant (search rules) (sink_test _ _ c.loop-i.i)
+
 pub returns : goal.returns
-returns c = λ i h. mapped _ _ (λ label. eqb label (label_in c.args.self.labels (sink c.args.self.r))) (λ x y q z. search rules) _ _ _ c.map.ensures.items i 0 false h ∙ sink_test _ _ i
+returns c = λ i h. c.loop-i.invariant.done i (omega arith)

@@ -13,7 +13,7 @@ loop-s-init c = λ i h. part_zero _ _ i
 pub loop-s-preserved : goal.loop-s-preserved
 loop-s-preserved c =
     let l = c.loop-s in
-    let a = c.args.self in
+    let a = c.args.self.now in
     let was = l.invariant in
     λ i h.
     elim c.if-self-s.branch [
@@ -26,5 +26,5 @@ loop-s-preserved c =
 pub returns : goal.returns
 returns c =
     let l = c.loop-s in
-    let a = c.args.self in
+    let a = c.args.self.now in
     apart_of (shut_at a.shut) (label_in a.labels) a.r l.s _ _ (omega arith) (l.invariant 0 (omega arith)) (l.invariant (2 * a.r + 1) (omega arith))

@@ -10,7 +10,7 @@ use Rattle.network_check.proofs.Nets.touches.Goals as goal
 pub returns : goal.returns
 unfolding touching
 returns c =
-    let a = c.args in
-    let p = leads a.self.r (shut_at a.self.shut) (label_in a.self.labels) (near_in a.marked) a.i in
-    any_from_yields_List p _ _ _ c.any.ensures.ran (YieldsList-from_range 1 (2 * a.self.r + 1) (2 * a.self.r) refl (omega arith)) (λ x b q k. search (rules, tests))
-    ∙ any_range p (2 * a.self.r) 1
+    let a = c.args.self.now in
+    let p = leads a.r (shut_at a.shut) (label_in a.labels) (near_in c.args.marked.now) c.args.i in
+    any_from_yields_List p _ _ _ c.any.ensures.ran (YieldsList-from_range 1 (2 * a.r + 1) (2 * a.r) refl (omega arith)) (λ x b q k. search (rules, tests))
+    ∙ any_range p (2 * a.r) 1

@@ -1,0 +1,2 @@
+-- What several proofs of this crate use. Assumes nothing.
+pub mod Filled
